@@ -1,0 +1,5 @@
+-- 01, 'The policies'.
+pub mod Greedy
+pub mod PG
+pub mod MF
+pub mod Plan

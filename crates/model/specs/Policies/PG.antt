@@ -1,0 +1,34 @@
+-- PG (document 001). First, going from the oldest held packet, the first p with value(p) x num <= value(arrival) x den is preempted, at most one.
+-- Then as plain greedy. Where one was preempted there is room, so plain greedy holds the arrival.
+use Prim.Native.Nat.{ℕ, zero, suc, _*_}
+use mathlib.Core.Bool.{cond}
+use mathlib.Core.List.{List, [], _∷_, _++_}
+use lib.ListN.{length, getD}
+use lib.Dec.{ltb, leb}
+use Rattle.model.specs.declared.Packet.{Packet}
+use Rattle.model.specs.declared.Beta.{Beta}
+use Rattle.model.specs.declared.LossKind.the-variants.{Preempted}
+use Rattle.model.specs.Packets.{Arrival, nobody, valuesOf}
+use Rattle.model.specs.Record.{Entry}
+use Rattle.model.specs.Course.{Decided, losing, runBy}
+use Rattle.model.specs.Policies.Greedy.{without, greedyRule}
+
+-- the place of the first value that an arrival of this value preempts; past the end where there is none
+unfoldable pub preemptedAt : Beta → ℕ → List ℕ → ℕ
+preemptedAt beta arrival [] = 0
+preemptedAt beta arrival (v ∷ values) =
+    cond (leb (v * beta .num) (arrival * beta .den)) 0 (suc (preemptedAt beta arrival values))
+
+unfoldable pub pgRule : ℕ → Beta → List Packet → Packet → Decided
+pgRule room beta queue p =
+    let place = preemptedAt beta (p .value) (valuesOf queue) in
+    cond (ltb place (length queue))
+    (record {
+      decision = losing (record { packet = getD queue place nobody; kind = Preempted });
+      queue = without place queue ++ p ∷ [];
+    })
+    (greedyRule room queue p)
+
+-- PG's run
+abbrev pub pgRun : ℕ → Beta → List Arrival → List Entry
+pgRun room beta trace = runBy (pgRule room beta) trace

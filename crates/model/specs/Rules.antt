@@ -1,0 +1,123 @@
+-- 01, 'The buffer's rules, and the audit'. A record obeys the rules when no packet has one of these faults. The audit takes packets in number order and
+-- at each tests in this order; the first fault is the answer, with the packet's number. Of the rows before one, `older`, the newest stands first.
+use Prim.Native.Nat.{ℕ, zero, suc, _+_}
+use mathlib.Core.Path.{_≡_}
+use mathlib.Core.Bool.{Bool, true, false, cond, not, _&&_, _||_}
+use mathlib.Core.List.{List, [], _∷_}
+use lib.ListN.{length}
+use lib.Dec.{leb, ltb, eqb}
+use Rattle.model.specs.declared.Slot.{Slot}
+use Rattle.model.specs.Limits.{within}
+use Rattle.model.specs.Packets.{slotOf}
+use Rattle.model.specs.Record.{Row, fateNumber}
+use Rattle.model.specs.declared.Fate.{Fate}
+use Rattle.model.specs.declared.Fate.the-variants.{Sent, Rejected, PushedOut, Preempted, Flushed}
+
+-- the row's packet has this fate
+unfoldable pub hasFate : Fate → Row → Bool
+hasFate f r = eqb (r .fate) (fateNumber f)
+
+-- lost to an arrival: pushed out or preempted
+abbrev pub isLost : Row → Bool
+isLost r = hasFate PushedOut r || hasFate Preempted r
+
+-- how many of the rows pass a test
+unfoldable pub countOf : (Row → Bool) → List Row → ℕ
+countOf test [] = 0
+countOf test (r ∷ rows) = cond (test r) 1 0 + countOf test rows
+
+-- 11: fate outside 1 to 5
+unfoldable pub fateOutside : Row → Bool
+fateOutside r = not (within 1 5 (r .fate))
+
+-- 12: by is not 0 for fate 1, not the own number for fate 2, or not a later packet of the trace for 3, 4, 5
+unfoldable pub byWrong : ℕ → Row → Bool
+byWrong packets r =
+    hasFate Sent r && not (eqb (r .by .0) 0)
+    || hasFate Rejected r && not (eqb (r .by .0) (r .number .0))
+    || (isLost r || hasFate Flushed r) && not (within (suc (r .number .0)) packets (r .by .0))
+
+-- 13: when is before the arrival (fate 1), differs from the arrival slot (2), differs from the slot of by (3, 4), or is before the slot of by (5)
+unfoldable pub whenWrong : List ℕ → Row → Bool
+whenWrong slots r =
+    hasFate Sent r && ltb (r .when .0) (r .slot .0)
+    || hasFate Rejected r && not (eqb (r .when .0) (r .slot .0))
+    || isLost r && not (eqb (r .when .0) (slotOf slots (r .by) .0))
+    || hasFate Flushed r && ltb (r .when .0) (slotOf slots (r .by) .0)
+
+-- this slot isn't later than that of the last sent packet
+unfoldable pub notAfterLast : Slot → List Row → Bool
+notAfterLast when [] = false
+notAfterLast when (r ∷ older) = cond (hasFate Sent r) (leb (when .0) (r .when .0)) (notAfterLast when older)
+
+-- 14: sent, and when isn't later than that of the last sent packet of lower number
+unfoldable pub notLater : List Row → Row → Bool
+notLater older r = hasFate Sent r && notAfterLast (r .when) older
+
+-- held just after the arrival of `at`: sent or flushed, with when not before this slot; or pushed out or preempted, with by greater than this number
+unfoldable pub isHeldAt : Row → Row → Bool
+isHeldAt at r =
+    (hasFate Sent r || hasFate Flushed r) && leb (at .slot .0) (r .when .0) || isLost r && ltb (at .number .0) (r .by .0)
+
+-- how many are held just after this arrival, of the packets up to it
+abbrev pub heldAfter : List Row → Row → ℕ
+heldAfter older r = countOf (isHeldAt r) (r ∷ older)
+
+-- 15: more than room held just after this arrival
+unfoldable pub overRoom : ℕ → List Row → Row → Bool
+overRoom room older r = ltb room (heldAfter older r)
+
+-- what the rules are about: the trace's slots, and the room
+pub record Buffer : Type 0 where
+  pub slots : List ℕ
+  pub room : ℕ
+
+-- this packet has none of the faults
+abbrev pub Faultless : Buffer → List Row → Row → Type 0
+Faultless B older r =
+    (fateOutside r ≡ false)
+    × (byWrong (length (B .slots)) r ≡ false)
+    × (whenWrong (B .slots) r ≡ false)
+    × (notLater older r ≡ false)
+    × (overRoom (B .room) older r ≡ false)
+
+-- no packet has one of the faults
+abbrev pub ObeysFrom : Buffer → List Row → List Row → Type 0
+ObeysFrom B older [] = Unit {0}
+ObeysFrom B older (r ∷ rows) = Faultless B older r × ObeysFrom B (r ∷ older) rows
+
+abbrev pub Obeys : Buffer → List Row → Type 0
+Obeys B rows = ObeysFrom B [] rows
+
+-- a refusal or a fault: its number and its place; number 0 where there is none
+pub record Verdict : Type 0 where
+  pub number : ℕ
+  pub place : ℕ
+
+abbrev pub clear : Verdict
+clear = record { number = 0; place = 0 }
+
+-- the first of two verdicts that is not clear
+unfoldable pub orElse : Verdict → Verdict → Verdict
+orElse v w = cond (eqb (v .number) 0) w v
+
+-- this number, at this place, if the test holds
+abbrev pub verdictIf : Bool → ℕ → ℕ → Verdict
+verdictIf test number place = cond test (record { number = number; place = place }) clear
+
+-- the first fault of one packet, tested in this order
+unfoldable pub faultAt : Buffer → List Row → Row → Verdict
+faultAt B older r =
+    orElse (verdictIf (fateOutside r) 11 (r .number .0))
+    (orElse (verdictIf (byWrong (length (B .slots)) r) 12 (r .number .0))
+    (orElse (verdictIf (whenWrong (B .slots) r) 13 (r .number .0))
+    (orElse (verdictIf (notLater older r) 14 (r .number .0))
+    (verdictIf (overRoom (B .room) older r) 15 (r .number .0)))))
+
+-- the first fault of a record, packets taken in number order
+unfoldable pub firstFaultFrom : Buffer → List Row → List Row → Verdict
+firstFaultFrom B older [] = clear
+firstFaultFrom B older (r ∷ rows) = orElse (faultAt B older r) (firstFaultFrom B (r ∷ older) rows)
+
+abbrev pub firstFault : Buffer → List Row → Verdict
+firstFault B rows = firstFaultFrom B [] rows

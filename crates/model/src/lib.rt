@@ -1,0 +1,227 @@
+// The kinds that every crate speaks of: packet numbers and slots, what the record says of a packet, totals, and the answers of the calls. What they mean stands in specs/.
+ghost use mathlib.Core.Path.{_≡_};
+ghost use Rattle.model.specs.Limits.{recordLimits};
+ghost use Rattle.model.specs.Record.{fateNumber, lossFate};
+ghost use Rattle.model.specs.Answers.{causeNumber, faultNumber};
+
+// The number of a packet, from 1; 0 where there is none. The index of document 000.
+pub struct PacketNumber(pub u32);
+
+// A slot. The time of document 000.
+pub struct Slot(pub u32);
+
+// A packet as a queue holds it.
+pub struct Packet {
+    pub number: PacketNumber,
+    pub value: u32,
+}
+
+// PG's beta, num / den. It is never divided.
+pub struct Beta {
+    pub num: u32,
+    pub den: u32,
+}
+
+// What can become of a packet.
+pub enum Fate {
+    Sent,
+    Rejected,
+    PushedOut,
+    Preempted,
+    Flushed,
+}
+
+impl Fate {
+    // 01's number of a fate.
+    pub fn number(self) -> u32
+        ensures { λ r. ⌜ r ≡ fateNumber self ⌝ }
+    {
+        match self {
+            Fate::Sent => 1,
+            Fate::Rejected => 2,
+            Fate::PushedOut => 3,
+            Fate::Preempted => 4,
+            Fate::Flushed => 5,
+        }
+    }
+}
+
+// What the record says of one packet: an entry of each of its three lists. The fate is a number, since anyone's record may hold any.
+pub struct Record {
+    pub fate: u32,
+    pub when: Slot,
+    pub by: PacketNumber,
+}
+
+impl Record {
+    pub const PACKETS: usize = 2_048;
+
+    pub const SLOT: u32 = 1_000_000;
+
+    pub const VALUE: u32 = 65_535;
+
+    pub const R: usize = 255;
+
+    // The limits above, shown equal to those that the definitions name.
+    pub fn limits() -> RecordLimits
+        ensures { λ r. ⌜ r ≡ recordLimits ⌝ }
+    {
+        RecordLimits {
+            packets: Record::PACKETS,
+            slot: Record::SLOT,
+            value: Record::VALUE,
+            r: Record::R,
+        }
+    }
+}
+
+// The limits of a trace, of its record and of mark-and-flush's r.
+pub struct RecordLimits {
+    pub packets: usize,
+    pub slot: u32,
+    pub value: u32,
+    pub r: usize,
+}
+
+// A number of packets and the sum of their values.
+pub struct Tally {
+    pub count: u32,
+    pub value: u32,
+}
+
+// The totals of a record.
+pub struct Totals {
+    pub arrived: Tally,
+    pub sent: Tally,
+    pub rejected: Tally,
+    pub pushed_out: Tally,
+    pub preempted: Tally,
+    pub flushed: Tally,
+    pub most_held: u32,
+}
+
+// Why a call is refused.
+pub enum Cause {
+    Lengths,
+    Packets,
+    Room,
+    Parameters,
+    Slot,
+    Value,
+    Spent,
+    Unsound,
+    Text,
+}
+
+impl Cause {
+    // 01's number of a refusal.
+    pub fn number(self) -> u32
+        ensures { λ r. ⌜ r ≡ causeNumber self ⌝ }
+    {
+        match self {
+            Cause::Lengths => 1,
+            Cause::Packets => 2,
+            Cause::Room => 3,
+            Cause::Parameters => 4,
+            Cause::Slot => 5,
+            Cause::Value => 6,
+            Cause::Spent => 7,
+            Cause::Unsound => 8,
+            Cause::Text => 21,
+        }
+    }
+}
+
+// A refusal: its cause, and its place (a packet's number or a line's), 0 where none is named.
+pub struct Refusal {
+    pub cause: Cause,
+    pub place: u32,
+}
+
+// How a packet's entry can break the buffer's rules.
+pub enum Fault {
+    FateOutside,
+    ByWrong,
+    WhenWrong,
+    NotLater,
+    OverRoom,
+}
+
+impl Fault {
+    // 01's number of a fault.
+    pub fn number(self) -> u32
+        ensures { λ r. ⌜ r ≡ faultNumber self ⌝ }
+    {
+        match self {
+            Fault::FateOutside => 11,
+            Fault::ByWrong => 12,
+            Fault::WhenWrong => 13,
+            Fault::NotLater => 14,
+            Fault::OverRoom => 15,
+        }
+    }
+}
+
+// The first fault of a record, and the packet that has it.
+pub struct FirstFault {
+    pub fault: Fault,
+    pub packet: PacketNumber,
+}
+
+// How a held packet can be lost to an arrival.
+pub enum LossKind {
+    PushedOut,
+    Preempted,
+}
+
+impl LossKind {
+    // The fate that such a loss is.
+    pub fn fate(self) -> Fate
+        ensures { λ r. ⌜ r ≡ lossFate self ⌝ }
+    {
+        match self {
+            LossKind::PushedOut => Fate::PushedOut,
+            LossKind::Preempted => Fate::Preempted,
+        }
+    }
+}
+
+// A held packet that an arrival cost.
+pub struct Loss {
+    pub packet: Packet,
+    pub kind: LossKind,
+}
+
+// What a policy or the offline plan answers.
+pub enum RunAnswer {
+    Ran(Totals),
+    Refused(Refusal),
+}
+
+// What the audit answers. Where it names a fault its totals are all 0.
+pub enum AuditAnswer {
+    Passed(Totals),
+    Faulty(FirstFault),
+    Refused(Refusal),
+}
+
+// What a live arrival answers, with the number that the packet was given.
+pub enum ArrivalAnswer {
+    Held(PacketNumber),
+    HeldLosing(PacketNumber, Loss),
+    Rejected(PacketNumber),
+    Refused(Refusal),
+}
+
+// What a live end of slot answers.
+pub enum SlotAnswer {
+    Sent(Packet),
+    Idle,
+    Refused(Refusal),
+}
+
+// What the making of a port answers.
+pub enum MakingAnswer {
+    Made,
+    Refused(Refusal),
+}
