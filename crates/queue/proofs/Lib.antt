@@ -1,3 +1,4 @@
 pub mod Search
 pub mod Loser
 pub mod Choose
+pub mod Moving

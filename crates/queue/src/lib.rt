@@ -2,6 +2,7 @@
 ghost use mathlib.Core.Path.{_≡_};
 ghost use Rattle.model.specs.Policies.PG.{preemptedAt};
 ghost use Rattle.queue.specs.Choose.{lowestOf, newestOf, overflowChoice, greedyChoice, choose};
+ghost use Rattle.queue.specs.Slide.{slid};
 use model::Beta;
 use model::LossKind;
 
@@ -110,5 +111,25 @@ pub fn decide(values: &[u32], room: usize, rule: Rule, arrival: u32) -> Choice
     match rule {
         Rule::Greedy => greedy(values, room, arrival),
         Rule::PG(beta) => pg(values, room, beta, arrival),
+    }
+}
+
+// Moves the entries from place `from` up to place `end` down to place `to`; the entries behind them stay. Where these are no such places nothing moves.
+pub fn slide(list: &mut [u32], from: usize, end: usize, to: usize)
+    ensures { λ _. ⌜ now (list .exit) ≡ slid from end to (now (list .entry)) ⌝ }
+{
+    if from < to {
+        return;
+    }
+    if end < from {
+        return;
+    }
+    if list.len() < end {
+        return;
+    }
+    let mut i = 0;
+    while i < end - from {
+        list[to + i] = list[from + i];
+        i += 1;
     }
 }
