@@ -2,3 +2,4 @@ pub mod Search
 pub mod Loser
 pub mod Choose
 pub mod Moving
+pub mod Packets

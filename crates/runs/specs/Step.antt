@@ -1,0 +1,27 @@
+-- What an arrival and the ends of slots do to a run's queue and to the record's lists.
+use Prim.Native.Nat.{ℕ}
+use mathlib.Core.Path.{_≡_}
+use mathlib.Core.List.{List}
+use Rattle.model.specs.declared.Packet.{Packet}
+use Rattle.model.specs.declared.Slot.{Slot}
+use Rattle.model.specs.Packets.{Arrival, slotsUntil}
+use Rattle.model.specs.Record.{Lists, entered}
+use Rattle.model.specs.Course.{Step, Decided, byRule, slotEnds, rejected}
+use Rattle.queue.specs.declared.Rule.{Rule}
+use Rattle.queue.specs.Choose.{ruleOf}
+use Rattle.runs.specs.declared.window.Window.{Window}
+use Rattle.runs.specs.Window.{Within, windowOf}
+
+-- the ends of the slots before the next arrival; the rule has no part in them
+unfoldable pub sending : Slot → Slot → List Packet → Step (List Packet)
+sending now until queue = slotEnds (byRule (λ held p. record { decision = rejected; queue = held })) (slotsUntil now until) now queue
+
+-- an arrival under a rule
+abbrev pub arriving : ℕ → Rule → Arrival → List Packet → Step (List Packet)
+arriving room rule a queue = byRule (ruleOf room rule) .arrive a queue
+
+-- a step is done: the window holds the queue after it, and its entries are written
+pub record Stepped (step : Step (List Packet)) (before : Lists) (w : Window) (numbers values : List ℕ) (after : Lists) : Type 0 where
+  pub within : Within w numbers values
+  pub queue : windowOf w numbers values ≡ step .next
+  pub written : after ≡ entered (step .entries) before
