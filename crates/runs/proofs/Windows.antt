@@ -17,7 +17,7 @@ use Rattle.queue.proofs.Packets.{packets-take, packets-drop, packets-append, pa
 use Rattle.runs.specs.declared.window.Window.{Window}
 use Rattle.runs.specs.Window.{part, windowOf, Within, Opened, Holds, oldestOf}
 
-abbrev window : ℕ → ℕ → Window
+abbrev pub window : ℕ → ℕ → Window
 window head tail = record { head = head; tail = tail }
 
 part-length : (w : Window) (list : List ℕ) → w .tail ≤ length list → length (part w list) ≡ w .tail - w .head
@@ -62,15 +62,15 @@ stored-part w list entry ordered free =
 
 pub stored : (w : Window) (numbers values : List ℕ) (p : Packet) → Within w numbers values → w .tail < length values
     → Holds (window (w .head) (w .tail + 1)) (set numbers (w .tail) (p .number .0)) (set values (w .tail) (p .value))
-      (windowOf w numbers values ++ p ∷ [])
+    (windowOf w numbers values ++ p ∷ [])
 unfolding windowOf packetsOf
 stored w numbers values p W free =
     record {
       within = record { ordered = omega (arith, W .ordered); inside = simp length-set (omega arith); same = simp length-set (W .same) };
       is =
-        ap₂ packetsOf (stored-part w numbers (p .number .0) (W .ordered) (omega (arith, W .same)))
+          ap₂ packetsOf (stored-part w numbers (p .number .0) (W .ordered) (omega (arith, W .same)))
           (stored-part w values (p .value) (W .ordered) free)
-        ∙ packets-append (part w numbers) (part w values) (p .number .0 ∷ []) (p .value ∷ [])
+          ∙ packets-append (part w numbers) (part w values) (p .number .0 ∷ []) (p .value ∷ [])
           (part-length w numbers (omega (arith, W .same, W .inside)) ∙ sym (part-length w values (W .inside)));
     }
 
@@ -106,14 +106,14 @@ module _ (w : Window) (list : List ℕ) (place : ℕ) (inside : w .head + place 
       ∙ ap (drop (w .head)) (take-paste list (w .head + place) rest n (omega arith) (rw length-drop (omega arith)))
       ∙ drop-append-le (w .head) (take (w .head + place) list) (take n rest) (rw length-take (omega arith))
       ∙ ap₂ _++_
-        (sym (take-drop place (w .head) list) ∙ sym (take-take place (w .tail - w .head) held (omega arith)))
-        (ap (take n) (sym (drop-drop (suc place) (w .head) list ∙ ap (λ (k : ℕ). drop k list) next))
-          ∙ take-drop n (suc place) held
-          ∙ ap (λ (k : ℕ). drop (suc place) (take k held)) (sym short))
+      (sym (take-drop place (w .head) list) ∙ sym (take-take place (w .tail - w .head) held (omega arith)))
+      (ap (take n) (sym (drop-drop (suc place) (w .head) list ∙ ap (λ (k : ℕ). drop k list) next))
+      ∙ take-drop n (suc place) held
+      ∙ ap (λ (k : ℕ). drop (suc place) (take k held)) (sym short))
 
 pub taken-out : (w : Window) (numbers values : List ℕ) (place : ℕ) → Within w numbers values → w .head + place < w .tail
     → Holds (window (w .head) (w .tail - 1)) (slid (w .head + place + 1) (w .tail) (w .head + place) numbers)
-      (slid (w .head + place + 1) (w .tail) (w .head + place) values) (without place (windowOf w numbers values))
+    (slid (w .head + place + 1) (w .tail) (w .head + place) values) (without place (windowOf w numbers values))
 unfolding windowOf
 taken-out w numbers values place W inside =
     let n : w .tail ≤ length numbers = omega (arith, W .same, W .inside) in
@@ -123,11 +123,11 @@ taken-out w numbers values place W inside =
     record {
       within = record { ordered = omega arith; inside = omega (arith, W .inside); same = omega (arith, W .same) };
       is =
-        ap₂ packetsOf (closed-part w numbers place inside n) (closed-part w values place inside (W .inside))
-        ∙ packets-append (take place (part w numbers)) (take place (part w values)) (drop (suc place) (part w numbers))
+          ap₂ packetsOf (closed-part w numbers place inside n) (closed-part w values place inside (W .inside))
+          ∙ packets-append (take place (part w numbers)) (take place (part w values)) (drop (suc place) (part w numbers))
           (drop (suc place) (part w values))
           (length-take place (part w numbers) ∙ ap (min place) same ∙ sym (length-take place (part w values)))
-        ∙ ap₂ _++_ (packets-take place (part w numbers) (part w values)) (packets-drop (suc place) (part w numbers) (part w values));
+          ∙ ap₂ _++_ (packets-take place (part w numbers) (part w values)) (packets-drop (suc place) (part w numbers) (part w values));
     }
 
 -- the oldest entry
@@ -141,8 +141,8 @@ part-cons head tail list some fits =
 module _ (head tail : ℕ) (numbers values : List ℕ) (W : Within (window head tail) numbers values) where
   pub window-cons : head < tail
       → windowOf (window head tail) numbers values
-        ≡ record { number = record { 0 = getD numbers head 0 }; value = getD values head 0 }
-        ∷ windowOf (window (head + 1) tail) numbers values
+      ≡ record { number = record { 0 = getD numbers head 0 }; value = getD values head 0 }
+      ∷ windowOf (window (head + 1) tail) numbers values
   unfolding windowOf packetsOf
   window-cons some =
       ap₂ packetsOf (part-cons head tail numbers some (omega (arith, W .same, W .inside))) (part-cons head tail values some (W .inside))

@@ -12,9 +12,12 @@ use Rattle.queue.specs.Choose.{ruleOf}
 use Rattle.runs.specs.declared.window.Window.{Window}
 use Rattle.runs.specs.Window.{Within, windowOf}
 
--- the ends of the slots before the next arrival; the rule has no part in them
+-- the ends of the slots before the next arrival. A rule has no part in them, so it is any
+abbrev pub anyRule : List Packet → Packet → Decided
+anyRule queue p = record { decision = rejected; queue = queue }
+
 unfoldable pub sending : Slot → Slot → List Packet → Step (List Packet)
-sending now until queue = slotEnds (byRule (λ held p. record { decision = rejected; queue = held })) (slotsUntil now until) now queue
+sending now until queue = slotEnds (byRule anyRule) (slotsUntil now until) now queue
 
 -- an arrival under a rule
 abbrev pub arriving : ℕ → Rule → Arrival → List Packet → Step (List Packet)

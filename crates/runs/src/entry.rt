@@ -22,15 +22,19 @@ fn place_of(number: PacketNumber) -> usize
     ensures { λ r. ⌜ r ≡ placeOf number ⌝ }
 {
     let n = number.0;
-    if n == 0 {
-        0
-    } else {
-        (n - 1) as usize
-    }
+    if n == 0 { 0 } else { (n - 1) as usize }
 }
 
 // Writes the entry of the packet with this number.
-pub fn enter(fates: &mut [u32], whens: &mut [u32], bys: &mut [u32], number: PacketNumber, fate: Fate, when: Slot, by: PacketNumber)
+pub fn enter(
+    fates: &mut [u32],
+    whens: &mut [u32],
+    bys: &mut [u32],
+    number: PacketNumber,
+    fate: Fate,
+    when: Slot,
+    by: PacketNumber,
+)
     ensures { λ _. ⌜ lists (now (fates .exit)) (now (whens .exit)) (now (bys .exit)) ≡ entering (entry number fate when by) (lists (now (fates .entry)) (now (whens .entry)) (now (bys .entry))) ⌝ }
 {
     let place = place_of(number);

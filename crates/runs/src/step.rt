@@ -21,19 +21,36 @@ use queue::Choice;
 use queue::Rule;
 use queue::decide;
 
-// The ends of the slots from `now` on, up to slot `until`: at each the oldest packet is sent. On idle the run goes straight on.
-pub fn send_until(numbers: &[u32], values: &[u32], fates: &mut [u32], whens: &mut [u32], bys: &mut [u32], w: Window, now: Slot, until: Slot) -> Window
+// The ends of the slots from `from` on, up to slot `until`: at each the oldest packet is sent. On idle the run goes straight on.
+pub fn send_until(
+    numbers: &[u32],
+    values: &[u32],
+    fates: &mut [u32],
+    whens: &mut [u32],
+    bys: &mut [u32],
+    w: Window,
+    from: Slot,
+    until: Slot,
+) -> Window
     requires { ⌜ Within w (now numbers) (now values) ⌝ }
-    ensures { λ r. ⌜ Stepped (sending (now .entry) (until .entry) (windowOf (w .entry) (now (numbers .entry)) (now (values .entry)))) (lists (now (fates .entry)) (now (whens .entry)) (now (bys .entry))) r (now (numbers .entry)) (now (values .entry)) (lists (now (fates .exit)) (now (whens .exit)) (now (bys .exit))) ⌝ }
+    ensures { λ r. ⌜ Stepped (sending from until (windowOf w (now (numbers .entry)) (now (values .entry)))) (lists (now (fates .entry)) (now (whens .entry)) (now (bys .entry))) r (now (numbers .entry)) (now (values .entry)) (lists (now (fates .exit)) (now (whens .exit)) (now (bys .exit))) ⌝ }
 {
     let mut head = w.head;
     let tail = w.tail;
-    let mut slot = now.0;
+    let mut slot = from.0;
     while slot < until.0 {
         let SlotAnswer::Sent(p) = oldest(numbers, values, head, tail) else {
             return Window { head, tail };
         };
-        enter(fates, whens, bys, p.number, Fate::Sent, Slot(slot), PacketNumber(0));
+        enter(
+            fates,
+            whens,
+            bys,
+            p.number,
+            Fate::Sent,
+            Slot(slot),
+            PacketNumber(0),
+        );
         head += 1;
         slot += 1;
     }

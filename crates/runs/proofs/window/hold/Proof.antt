@@ -40,7 +40,7 @@ same-length-2 c = search needs
 
 -- src/window.rt:39:1
 returns : tie.Need-returns
-returns c = 
+returns c =
     let freed = c .before .before .before .before .freed in
     let a = c .before .before .before .before .before .before .before .before .before .args in
     let done = stored (freed .result) (freed .last .0) (freed .last .1 .0) (a .p) (freed .ensures .within) (freed .ensures .free) in

@@ -40,7 +40,7 @@ same-length-2 c = search needs
 
 -- src/window.rt:56:1
 returns : tie.Need-returns
-returns c = 
+returns c =
     let start = c .before .before .before .before .before .before .before .before .before .before .before in
     let a = start .args in
     rw (c .before .before .before .before .before .before .slide .ensures, c .before .before .slide2 .ensures)

@@ -24,14 +24,14 @@ shared-slice-read-t13 c = search needs
 
 -- src/window.rt:72:1
 returns : tie.Need-returns
-returns c = 
+returns c =
     let start = c .before .before .before in
     let a = start .args in
     rw (window-cons (a .head) (a .tail) (a .numbers .now) (a .values .now) (start .pre) (c .before .before .if1 .taken)) refl
 
 -- src/window.rt:72:1
 returns-2 : tie.Need-returns-2
-returns-2 c = 
+returns-2 c =
     let a = c .before .args in
     rw (window-none (a .head) (a .tail) (a .numbers .now) (a .values .now) (c .before .pre) (c .if1 .left)) refl
 
