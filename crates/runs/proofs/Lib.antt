@@ -1,2 +1,3 @@
 pub mod Windows
 pub mod Sending
+pub mod Arriving

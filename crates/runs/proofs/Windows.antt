@@ -20,7 +20,7 @@ use Rattle.runs.specs.Window.{part, windowOf, Within, Opened, Holds, old
 abbrev pub window : ℕ → ℕ → Window
 window head tail = record { head = head; tail = tail }
 
-part-length : (w : Window) (list : List ℕ) → w .tail ≤ length list → length (part w list) ≡ w .tail - w .head
+pub part-length : (w : Window) (list : List ℕ) → w .tail ≤ length list → length (part w list) ≡ w .tail - w .head
 part-length w list h = simp (length-take, length-drop) (omega arith)
 
 -- moved to the start of its list

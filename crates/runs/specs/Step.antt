@@ -8,7 +8,8 @@ use Rattle.model.specs.Packets.{Arrival, slotsUntil}
 use Rattle.model.specs.Record.{Lists, entered}
 use Rattle.model.specs.Course.{Step, Decided, byRule, slotEnds, rejected}
 use Rattle.queue.specs.declared.Rule.{Rule}
-use Rattle.queue.specs.Choose.{ruleOf}
+use Rattle.queue.specs.declared.Choice.{Choice}
+use Rattle.queue.specs.Choose.{ruleOf, applied}
 use Rattle.runs.specs.declared.window.Window.{Window}
 use Rattle.runs.specs.Window.{Within, windowOf}
 
@@ -18,6 +19,14 @@ anyRule queue p = record { decision = rejected; queue = queue }
 
 unfoldable pub sending : Slot → Slot → List Packet → Step (List Packet)
 sending now until queue = slotEnds (byRule anyRule) (slotsUntil now until) now queue
+
+-- the arrival of a packet in a slot
+abbrev pub arrival : Slot → Packet → Arrival
+arrival slot p = record { slot = slot; packet = p }
+
+-- an arrival of which a choice is made
+abbrev pub choosing : Choice → Arrival → List Packet → Step (List Packet)
+choosing choice a queue = byRule (applied choice) .arrive a queue
 
 -- an arrival under a rule
 abbrev pub arriving : ℕ → Rule → Arrival → List Packet → Step (List Packet)

@@ -6,13 +6,14 @@ ghost use Rattle.model.specs.Record.{entered};
 ghost use Rattle.queue.specs.Choose.{ruleOf};
 ghost use Rattle.runs.specs.Entry.{lists};
 ghost use Rattle.runs.specs.Window.{windowOf, Within};
-ghost use Rattle.runs.specs.Step.{Stepped, arriving, sending};
+ghost use Rattle.runs.specs.Step.{Stepped, arrival, choosing, arriving, sending};
 use crate::entry::enter;
 use crate::window::Window;
 use crate::window::hold;
 use crate::window::lose;
 use crate::window::oldest;
 use model::Fate;
+use model::LossKind;
 use model::Packet;
 use model::PacketNumber;
 use model::Slot;
@@ -55,4 +56,68 @@ pub fn send_until(
         slot += 1;
     }
     Window { head, tail }
+}
+
+// The packet at a place is lost to the arrival, which is held.
+fn replace(
+    numbers: &mut [u32],
+    values: &mut [u32],
+    fates: &mut [u32],
+    whens: &mut [u32],
+    bys: &mut [u32],
+    w: Window,
+    place: usize,
+    kind: LossKind,
+    slot: Slot,
+    p: Packet,
+) -> Window
+    requires { ⌜ Within w (now numbers) (now values) ⌝ }
+    requires { ⌜ w .head + place < w .tail ⌝ }
+    ensures { λ r. ⌜ Stepped (choosing (Choice.Lose place kind) (arrival slot p) (windowOf w (now (numbers .entry)) (now (values .entry)))) (lists (now (fates .entry)) (now (whens .entry)) (now (bys .entry))) r (now (numbers .exit)) (now (values .exit)) (lists (now (fates .exit)) (now (whens .exit)) (now (bys .exit))) ⌝ }
+{
+    let at = w.head + place;
+    let lost = PacketNumber(numbers[at]);
+    enter(fates, whens, bys, lost, kind.fate(), slot, p.number);
+    let rest = lose(numbers, values, w, place);
+    hold(numbers, values, rest, p)
+}
+
+// An arrival under a rule.
+pub fn arrive(
+    numbers: &mut [u32],
+    values: &mut [u32],
+    fates: &mut [u32],
+    whens: &mut [u32],
+    bys: &mut [u32],
+    w: Window,
+    room: usize,
+    rule: Rule,
+    slot: Slot,
+    p: Packet,
+) -> Window
+    requires { ⌜ Within w (now numbers) (now values) ⌝ }
+    requires { ⌜ w .tail - w .head < length (now values) ⌝ }
+    ensures { λ r. ⌜ Stepped (arriving room rule (arrival slot p) (windowOf w (now (numbers .entry)) (now (values .entry)))) (lists (now (fates .entry)) (now (whens .entry)) (now (bys .entry))) r (now (numbers .exit)) (now (values .exit)) (lists (now (fates .exit)) (now (whens .exit)) (now (bys .exit))) ⌝ }
+{
+    let head = w.head;
+    let tail = w.tail;
+    match decide(&values[head..tail], room, rule, p.value) {
+        Choice::Hold => hold(numbers, values, w, p),
+        Choice::Reject => {
+            enter(fates, whens, bys, p.number, Fate::Rejected, slot, p.number);
+            w
+        }
+        Choice::Lose(place, kind) => replace(
+            numbers,
+            values,
+            fates,
+            whens,
+            bys,
+            w,
+            place,
+            kind,
+            slot,
+            p,
+        ),
+    }
 }
