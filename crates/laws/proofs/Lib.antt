@@ -1,0 +1,2 @@
+-- What follows from the definitions of model, said once for every policy.
+pub mod FirstFault
