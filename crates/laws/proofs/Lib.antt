@@ -3,3 +3,5 @@ pub mod FirstFault
 pub mod Times
 pub mod Fifo
 pub mod Conserving
+pub mod Entered
+pub mod WellFormed
