@@ -5,3 +5,4 @@ pub mod Fifo
 pub mod Conserving
 pub mod Entered
 pub mod WellFormed
+pub mod PG
