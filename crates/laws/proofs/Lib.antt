@@ -6,3 +6,6 @@ pub mod Conserving
 pub mod Entered
 pub mod WellFormed
 pub mod PG
+pub mod Rising
+pub mod All
+pub mod Moments
