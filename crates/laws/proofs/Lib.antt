@@ -9,3 +9,4 @@ pub mod PG
 pub mod Rising
 pub mod All
 pub mod Moments
+pub mod Standing
