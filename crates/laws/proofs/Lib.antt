@@ -10,3 +10,5 @@ pub mod Rising
 pub mod All
 pub mod Moments
 pub mod Standing
+pub mod Held
+pub mod Sends
