@@ -122,6 +122,9 @@ comes-none slots n now last (a ∷ trace) h C =
 abbrev pub nextRow : List Entry → Arrival → Row
 nextRow entries a = rowOf a (entryOf (a .packet .number .0) entries)
 
+pub next-tells : (entries : List Entry) (last : ℕ) (a : Arrival) → a .packet .number .0 ≡ suc last → Tells (suc last) (nextRow entries a) (entryOf (suc last) entries)
+next-tells entries last a e = record { number-told = e; fate = rw e; when = rw e; by = rw e }
+
 -- after every arrival fault 15 counts what the queue holds
 abbrev pub HeldAgrees : {S : Type 0} → Policy S → List Entry → Slot → S → List Row → List Arrival → Type 0
 HeldAgrees P entries now s older [] = Unit {0}

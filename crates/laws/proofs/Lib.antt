@@ -12,3 +12,7 @@ pub mod Moments
 pub mod Standing
 pub mod Held
 pub mod Sends
+pub mod Obeys
+pub mod Room
+pub mod Accepted
+pub mod Lawful

@@ -146,7 +146,7 @@ sends-in-order i j low after (e ∷ entries) h b bi bj si sj =
     (λ f its. sends-in-order i j (e .number .0) (e .when .0) entries (its .2) b (omega (arith, rw t at bi)) (omega (arith, rw t′ at bj)) (rw t at si) (rw t′ at sj))
     (λ its. sends-in-order i j low after entries its b (omega (arith, rw t at bi)) (omega (arith, rw t′ at bj)) (rw t at si) (rw t′ at sj)))
 
-number-sent : (f : Fate) → fateNumber f ≡ 1 → f ≡ Sent
+pub number-sent : (f : Fate) → fateNumber f ≡ 1 → f ≡ Sent
 number-sent Sent e = refl
 number-sent Rejected e = absurd (omega arith)
 number-sent PushedOut e = absurd (omega arith)

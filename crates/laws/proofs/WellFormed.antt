@@ -45,7 +45,7 @@ pub record WellFormed (slots values : List ℕ) (entries : List Entry) : Type 0 
   pub arrived-count : totalsOf (rows (arrivals slots values) (recordOf (length slots) entries)) .arrived .count ≡ length slots
   pub arrived-value : totalsOf (rows (arrivals slots values) (recordOf (length slots) entries)) .arrived .value ≡ sum values
 
-fateNumber-within : (f : Fate) → within 1 5 (fateNumber f) ≡ true
+pub fateNumber-within : (f : Fate) → within 1 5 (fateNumber f) ≡ true
 unfolding within
 fateNumber-within Sent = refl
 fateNumber-within Rejected = refl
