@@ -30,29 +30,24 @@ abbrev pub restFrom : (ℕ → Bool) → List ℕ → List ℕ → ℕ → ℕ �
 restFrom ok slots values before i =
     packetRefusalFrom ok (slotAt before) (arrivalsFrom (suc i) (drop i slots) (drop i values))
 
-module _ (ok : ℕ → Bool) (slots values : List ℕ) (before i : ℕ) (lengths : length values ≡ length slots) (h : i < length slots) where
-  turn : restFrom ok slots values before i
-      ≡ orElse (verdictIf (not (slotOk (slotAt before) (slotAt (getD slots i 0)))) 5 (i + 1))
-      (orElse (verdictIf (not (ok (getD values i 0))) 6 (i + 1)) (restFrom ok slots values (getD slots i 0) (i + 1)))
-  unfolding packetRefusalFrom arrivalsFrom
-  turn =
-      let h′ : i < length values = omega arith in
-      rw (add-one, drop-cons slots i 0, drop-cons values i 0)
-
-  pub turn-slot : slotOk (slotAt before) (slotAt (getD slots i 0)) ≡ false
-      → restFrom ok slots values before i ≡ record { number = 5; place = i + 1 }
-  unfolding orElse
-  turn-slot e = rw (turn, e)
-
-  pub turn-value : slotOk (slotAt before) (slotAt (getD slots i 0)) ≡ true → ok (getD values i 0) ≡ false
-      → restFrom ok slots values before i ≡ record { number = 6; place = i + 1 }
-  unfolding orElse
-  turn-value e f = rw (turn, e, f)
-
-  pub turn-clear : slotOk (slotAt before) (slotAt (getD slots i 0)) ≡ true → ok (getD values i 0) ≡ true
+-- what one packet's two tests leave of the walk's answer
+pub record Turn (ok : ℕ → Bool) (slots values : List ℕ) (before i : ℕ) (slot-fits value-fits : Bool) : Type 0 where
+  pub by-slot : slot-fits ≡ false → restFrom ok slots values before i ≡ record { number = 5; place = i + 1 }
+  pub by-value : slot-fits ≡ true → value-fits ≡ false → restFrom ok slots values before i ≡ record { number = 6; place = i + 1 }
+  pub by-none : slot-fits ≡ true → value-fits ≡ true
       → restFrom ok slots values (getD slots i 0) (i + 1) ≡ restFrom ok slots values before i
-  unfolding orElse
-  turn-clear e f = rw (turn, e, f)
+
+pub turn : (ok : ℕ → Bool) (slots values : List ℕ) (before i : ℕ) → length values ≡ length slots → i < length slots
+    → {slot-fits value-fits : Bool} → slot-fits ≡ slotOk (slotAt before) (slotAt (getD slots i 0)) → value-fits ≡ ok (getD values i 0)
+    → Turn ok slots values before i slot-fits value-fits
+unfolding packetRefusalFrom arrivalsFrom orElse
+turn ok slots values before i lengths h e f =
+    let h′ : i < length values = omega arith in
+    record {
+      by-slot = λ a. rw (add-one, drop-cons slots i 0, drop-cons values i 0, ← e, a);
+      by-value = λ a b. rw (add-one, drop-cons slots i 0, drop-cons values i 0, ← e, a, ← f, b);
+      by-none = λ a b. rw (add-one, drop-cons slots i 0, drop-cons values i 0, ← e, a, ← f, b);
+    }
 
 -- after the last packet nothing is refused
 pub turn-none : (ok : ℕ → Bool) (slots values : List ℕ) (before i : ℕ) → length slots ≤ i → restFrom ok slots values before i ≡ clear
@@ -91,10 +86,15 @@ module _ (own : Bool) (ok : ℕ → Bool) (slots values : List ℕ) (room : ℕ)
         unfolding orElse
         order-rest d = rw (a, b, c, d)
 
+-- the parts of a test
+pub left-part : (a b : Bool) → a && b ≡ true → a ≡ true
+left-part true b e = refl
+left-part false b e = e
+
+pub right-part : (a b : Bool) → a && b ≡ true → b ≡ true
+right-part true b e = e
+right-part false b e = absurd (let z : _≡_ {A = ℕ} 0 1 = cc in omega arith)
+
 -- equal lengths, of which that of the values is the first
 pub values-length : (slots values : List ℕ) (lists : Lists) → lengthsEqual slots values lists ≡ true → length values ≡ length slots
-values-length slots values lists e = eqb-true _ _ (first _ _ (first _ _ (first _ _ e)))
-  where
-    first : (a b : Bool) → a && b ≡ true → a ≡ true
-    first true b e = refl
-    first false b e = e
+values-length slots values lists e = eqb-true _ _ (left-part _ _ (left-part _ _ (left-part _ _ e)))

@@ -71,13 +71,15 @@ fn packets(slots: &[u32], values: &[u32], taken: Values) -> Checked
     while i < slots.len() {
         let slot = slots[i];
         let place = i as u32 + 1;
-        if !slot_ok(before, slot) {
+        let slot_fits = slot_ok(before, slot);
+        let value_fits = value_taken(taken, values[i]);
+        if !slot_fits {
             return Checked::Refused(Refusal {
                 cause: Cause::Slot,
                 place,
             });
         }
-        if !value_taken(taken, values[i]) {
+        if !value_fits {
             return Checked::Refused(Refusal {
                 cause: Cause::Value,
                 place,

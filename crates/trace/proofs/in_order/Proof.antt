@@ -1,18 +1,18 @@
 -- `trace::in_order` meets its contract: the first test that fails is the first refusal of `traceRefusal`, and where all pass the packets' own is left.
 use mathlib.Core.Path.{_≡_, sym, ap, _∙_}
-use mathlib.Core.Bool.{true, false}
 use borrow.Author.Needs.{needs}
-use borrow.Author.Tests.{not-true, not-false, le-leb, lt-leb}
 use native.Mathlib.Omega.{arith}
-use lib.Dec.{leb}
+use mathlib.Core.Bool.{true, false}
 use lib.ListN.{length}
-use Rattle.model.specs.Limits.{recordLimits}
-use Rattle.model.specs.Refusals.{roomOk}
-use Rattle.trace.specs.Checked.{verdictOf, listsOf, okOf, lengthsEqual}
+use borrow.Author.Tests.{not-true, not-false, le-leb, lt-leb}
+use lib.Dec.{leb}
 use Rattle.model.specs.Record.{Lists}
-use Rattle.trace.proofs.Laws.{order-1, order-2, order-3, order-4, order-rest, values-length}
+use Rattle.trace.specs.Checked.{verdictOf, listsOf, okOf, lengthsEqual}
+use Rattle.model.specs.Limits.{recordLimits}
 use Rattle.trace.proofs.in_order.Statement.{statement}
+use Rattle.model.specs.Refusals.{roomOk}
 use Rattle.trace.proofs.in_order.Tie as tie
+use Rattle.trace.proofs.Laws.{order-1, order-2, order-3, order-4, order-rest, values-length}
 
 -- where the lengths were tested
 abbrev start₁ : tie.After-lengths-equal → tie.Start

@@ -1,21 +1,15 @@
-use Rattle.model.specs.Refusals.{mfRefusal}
+-- `trace::mf` meets its contract: `mfRefusal` is the order of every call, with lo, hi and r tested as its own and only lo and hi taken.
 use borrow.Author.Needs.{needs}
-use Rattle.trace.proofs.mf.Statement.{statement}
 use Rattle.trace.proofs.mf.Tie as tie
-use Rattle.trace.proofs.mf.Reads as reads
-use Rattle.trace.proofs.mf.Lts as lts
-use Rattle.trace.proofs.in_order.Reads as in-order-reads
-use Rattle.trace.proofs.marking_ok.Reads as marking-ok-reads
+use Rattle.model.specs.Refusals.{mfRefusal}
+use Rattle.trace.proofs.mf.Statement.{statement}
 
--- src/lib.rt:184:54
 marking-ok-requires : tie.Need-marking-ok-requires
 marking-ok-requires c κs = search needs
 
--- src/lib.rt:184:5
 in-order-requires : tie.Need-in-order-requires
 in-order-requires c κs = search needs
 
--- src/lib.rt:171:1
 returns : tie.Need-returns
 unfolding mfRefusal
 returns c = rw (← c .before .marking-ok .ensures) (c .in-order .ensures)
