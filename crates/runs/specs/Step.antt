@@ -6,7 +6,7 @@ use Rattle.model.specs.declared.Packet.{Packet}
 use Rattle.model.specs.declared.Slot.{Slot}
 use Rattle.model.specs.Packets.{Arrival, slotsUntil}
 use Rattle.model.specs.Record.{Lists, entered}
-use Rattle.model.specs.Course.{Step, Decided, byRule, slotEnds, rejected}
+use Rattle.model.specs.Course.{Step, Decided, andThen, byRule, slotEnds, rejected}
 use Rattle.queue.specs.declared.Rule.{Rule}
 use Rattle.queue.specs.declared.Choice.{Choice}
 use Rattle.queue.specs.Choose.{ruleOf, applied}
@@ -31,6 +31,12 @@ choosing choice a queue = byRule (applied choice) .arrive a queue
 -- an arrival under a rule
 abbrev pub arriving : ℕ → Rule → Arrival → List Packet → Step (List Packet)
 arriving room rule a queue = byRule (ruleOf room rule) .arrive a queue
+
+-- the ends of the slots before an arrival's own, then the arrival
+abbrev pub turning : ℕ → Rule → Slot → Arrival → List Packet → Step (List Packet)
+turning room rule now a queue =
+    let before = sending now (a .slot) queue in
+    andThen (before .entries) (arriving room rule a (before .next))
 
 -- a step is done: the window holds the queue after it, and its entries are written
 pub record Stepped (step : Step (List Packet)) (before : Lists) (w : Window) (numbers values : List ℕ) (after : Lists) : Type 0 where

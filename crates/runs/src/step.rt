@@ -6,7 +6,7 @@ ghost use Rattle.model.specs.Record.{entered};
 ghost use Rattle.queue.specs.Choose.{ruleOf};
 ghost use Rattle.runs.specs.Entry.{lists};
 ghost use Rattle.runs.specs.Window.{windowOf, Within};
-ghost use Rattle.runs.specs.Step.{Stepped, arrival, choosing, arriving, sending};
+ghost use Rattle.runs.specs.Step.{Stepped, arrival, choosing, arriving, turning, sending};
 use crate::entry::enter;
 use crate::window::Window;
 use crate::window::hold;
@@ -120,4 +120,37 @@ pub fn arrive(
             p,
         ),
     }
+}
+
+// One packet of a trace: the ends of the slots before its own, then its arrival.
+pub fn take(
+    numbers: &mut [u32],
+    values: &mut [u32],
+    fates: &mut [u32],
+    whens: &mut [u32],
+    bys: &mut [u32],
+    w: Window,
+    room: usize,
+    rule: Rule,
+    before: Slot,
+    slot: Slot,
+    p: Packet,
+) -> Window
+    requires { ⌜ Within w (now numbers) (now values) ⌝ }
+    requires { ⌜ w .tail - w .head < length (now values) ⌝ }
+    ensures { λ r. ⌜ Stepped (turning room rule before (arrival slot p) (windowOf w (now (numbers .entry)) (now (values .entry)))) (lists (now (fates .entry)) (now (whens .entry)) (now (bys .entry))) r (now (numbers .exit)) (now (values .exit)) (lists (now (fates .exit)) (now (whens .exit)) (now (bys .exit))) ⌝ }
+{
+    let left = send_until(numbers, values, fates, whens, bys, w, before, slot);
+    arrive(
+        numbers,
+        values,
+        fates,
+        whens,
+        bys,
+        left,
+        room,
+        rule,
+        slot,
+        p,
+    )
 }
