@@ -2,3 +2,4 @@ pub mod Windows
 pub mod Sending
 pub mod Arriving
 pub mod Turning
+pub mod Running

@@ -1,3 +1,4 @@
 pub mod Entry
 pub mod Window
 pub mod Step
+pub mod Run
