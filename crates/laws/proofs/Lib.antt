@@ -16,3 +16,4 @@ pub mod Obeys
 pub mod Room
 pub mod Accepted
 pub mod Lawful
+pub mod LawfulMF

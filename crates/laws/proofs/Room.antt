@@ -105,7 +105,7 @@ kept-room room kept now queue counted (a ∷ trace) h fit =
     in
     omega (arith, leb-true after room (both .0), kept-room room kept (a .slot) (turn P now queue a .next) after trace here (both .1))
 
-zeros : (n place : ℕ) → _≡_ {A = ℕ} (getD (replicate n 0) place 0) 0
+pub zeros : (n place : ℕ) → _≡_ {A = ℕ} (getD (replicate n 0) place 0) 0
 zeros zero place = refl
 zeros (suc n) zero = refl
 zeros (suc n) (suc place) = zeros n place
