@@ -1,10 +1,8 @@
 -- What holds of all entries of a list holds of the entry of each packet that is entered there.
-use Prim.Native.Nat.{ℕ, zero, suc, _+_, _≤_, _<_}
+use Prim.Native.Nat.{ℕ, _<_}
 use native.Mathlib.Omega.{arith}
 use mathlib.Core.Path.{_≡_, refl}
-use mathlib.Core.Bool.{true, false, cond}
 use mathlib.Core.List.{List, [], _∷_, _++_}
-use lib.Dec.{eqb}
 use Rattle.model.specs.Record.{Entry}
 use Rattle.laws.proofs.Times.{times, timesEntered}
 use Rattle.laws.proofs.Entered.{eqb-cases, entryOf}

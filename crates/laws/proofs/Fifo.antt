@@ -1,10 +1,10 @@
 -- The four policies are first in, first out: an arrival enters at the back or not at all, losses leave from anywhere, and at a slot's end, once the flushed
 -- are gone, the oldest is sent.
-use Prim.Native.Nat.{ℕ, zero, suc, _+_, _≤_, _<_}
-use mathlib.Core.Path.{_≡_, refl, subst, sym}
+use Prim.Native.Nat.{ℕ, _<_}
+use mathlib.Core.Path.{_≡_, refl}
 use mathlib.Core.Bool.{Bool, true, false, cond}
 use mathlib.Core.List.{List, [], _∷_, _++_}
-use lib.ListN.{length, getD, take, drop}
+use lib.ListN.{length, getD}
 use lib.Dec.{eqb, ltb}
 use borrow.Author.Tests.{ltb-true}
 use Rattle.model.specs.declared.Beta.{Beta}
@@ -18,7 +18,7 @@ use Rattle.model.specs.Record.{Entry, flushedAt}
 use Rattle.model.specs.Course.{Policy, Decided, held, rejected, losing, entriesOf, sendOldest, byRule}
 use Rattle.model.specs.Policies.Greedy.{without, loserAt, overflow, greedyRule}
 use Rattle.model.specs.Policies.PG.{preemptedAt, pgRule}
-use Rattle.model.specs.Policies.MF.{Marking, Marked, markOf, goesWith, flushed, unflushed, headMark, marksAfter, mfPolicy}
+use Rattle.model.specs.Policies.MF.{Marking, markOf, goesWith, flushed, unflushed, headMark, marksAfter, mfPolicy}
 use Rattle.model.specs.Policies.Plan.{keptOf, keptRule}
 
 -- the arrival is held, or rejected, or held at the cost of the packet at one place

@@ -4,18 +4,18 @@ use Prim.Native.Nat.{ℕ, zero, suc, _-_, _≤_, _<_}
 use native.Mathlib.Omega.{arith}
 use mathlib.Core.Path.{_≡_, refl, ap}
 use mathlib.Core.Bool.{Bool, true, false, cond, not, _&&_, and-eq-true-iff}
-use mathlib.Core.List.{List, [], _∷_, _++_}
-use lib.ListN.{length, getD, set, take, replicate}
+use mathlib.Core.List.{List, [], _∷_}
+use lib.ListN.{length, getD, set, take}
 use lib.Dec.{leb, eqb}
 use borrow.Author.Tests.{eqb-false, not-true}
 use Rattle.model.specs.declared.PacketNumber.{PacketNumber}
 use Rattle.model.specs.declared.Packet.{Packet}
 use Rattle.model.specs.declared.Slot.{Slot}
 use Rattle.model.specs.Packets.{placeOf, slotOf, arrivals}
-use Rattle.model.specs.Record.{Lists, Entry, flushedAt}
+use Rattle.model.specs.Record.{Lists, flushedAt}
 use Rattle.model.specs.Course.{first}
 use Rattle.model.specs.Refusals.{mfRefusal}
-use Rattle.model.specs.Policies.MF.{Marking, Marked, markOf, isMarked, goesWith, markDown, markFrom, marksAfter, flushed, headMark, mfPolicy, unmarked}
+use Rattle.model.specs.Policies.MF.{Marking, Marked, markOf, isMarked, goesWith, markDown, markFrom, marksAfter, flushed, mfPolicy, unmarked}
 use Rattle.laws.proofs.Fifo.{fifo-mf}
 use Rattle.laws.proofs.Conserving.{conserving-mf}
 use Rattle.laws.proofs.Rising.{Rising, rising-bounds, rising-take}
@@ -105,9 +105,9 @@ mf-marks room M slots =
       flush = λ last now s rising fit. flushed-fits last now _ 0 (marksAfter room M slots now s) (s .queue) rising (fits last now s rising fit);
     }
 
-pub lawful-mf : (slots values : List ℕ) (room : ℕ) (M : Marking) (lists : Lists) → mfRefusal M slots values room lists .number ≡ 0 →
+pub lawful-mf : (slots values : List ℕ) (room : ℕ) (lists : Lists) (M : Marking) → mfRefusal M slots values room lists .number ≡ 0 →
     Lawful (mfPolicy room M slots) (unmarked (length slots)) slots values room
-lawful-mf slots values room M lists z =
+lawful-mf slots values room lists M z =
     lawful (mf-marks room M slots) (unmarked (length slots)) refl (λ k marked. absurd (marked (zeros (length slots) k)))
     slots values room lists (mf-accepted slots values room lists M z)
     (mostQueue-roomy (conserving-mf room M slots) room (roomy-mf room M slots) first (unmarked (length slots)) (arrivals slots values) (omega arith))

@@ -1,20 +1,20 @@
 -- No policy holds more than room just after an arrival. Plain greedy takes a packet in only where there is room or another is lost, PG and MF likewise, and
 -- the plan keeps a packet only if all that it has kept fits.
-use Prim.Native.Nat.{ℕ, zero, suc, _+_, _-_, _≤_, _<_, max}
+use Prim.Native.Nat.{ℕ, zero, suc, _+_, _-_, _≤_}
 use native.Mathlib.Omega.{arith}
 use mathlib.Core.Path.{_≡_, refl}
-use mathlib.Core.Bool.{Bool, true, false, cond, _&&_, and-eq-true-iff}
+use mathlib.Core.Bool.{Bool, true, false, cond, and-eq-true-iff}
 use mathlib.Core.List.{List, [], _∷_, _++_}
-use lib.ListN.{length, getD, replicate, length-append, getD-replicate, List·getD-eq-default, length-replicate}
-use lib.Dec.{leb, ltb, eqb}
-use borrow.Author.Tests.{ltb-true, ltb-false, leb-true, le-leb, eqb-true}
+use lib.ListN.{length, getD, replicate, length-append}
+use lib.Dec.{leb, ltb}
+use borrow.Author.Tests.{ltb-true, leb-true, le-leb}
 use Rattle.model.specs.declared.Beta.{Beta}
 use Rattle.model.specs.declared.LossKind.{LossKind}
 use Rattle.model.specs.declared.LossKind.the-variants.{PushedOut, Preempted}
 use Rattle.model.specs.declared.Packet.{Packet}
 use Rattle.model.specs.declared.Slot.{Slot}
 use Rattle.model.specs.Packets.{Arrival, nobody, valuesOf, slotsUntil, placeOf}
-use Rattle.model.specs.Course.{Policy, Decided, held, rejected, losing, byRule, slotEnds, course, first}
+use Rattle.model.specs.Course.{Policy, Decided, held, rejected, losing, byRule, slotEnds, first}
 use Rattle.model.specs.Policies.Greedy.{without, loserAt, overflow, greedyRule}
 use Rattle.model.specs.Policies.PG.{preemptedAt, pgRule}
 use Rattle.model.specs.Policies.MF.{Marking, mfPolicy}

@@ -2,22 +2,20 @@
 use Prim.Native.Nat.{ℕ, zero, suc, _+_, _≤_, _<_}
 use native.Mathlib.Omega.{arith}
 use mathlib.Core.Path.{_≡_, refl, sym, _∙_}
-use mathlib.Core.Bool.{Bool, true, false, cond, _&&_}
+use mathlib.Core.Bool.{false}
 use mathlib.Core.List.{List, [], _∷_, _++_, append-nil, append-assoc}
 use lib.ListN.{length}
-use lib.Dec.{leb, eqb}
 use borrow.Author.Tests.{lt-leb}
 use Rattle.model.specs.declared.Fate.{Fate}
 use Rattle.model.specs.declared.Fate.the-variants.{Sent, Rejected, PushedOut, Preempted, Flushed}
 use Rattle.model.specs.declared.LossKind.{LossKind}
 use Rattle.model.specs.declared.LossKind.the-variants as kinds
-use Rattle.model.specs.declared.Loss.{Loss}
 use Rattle.model.specs.declared.Packet.{Packet}
 use Rattle.model.specs.declared.Slot.{Slot}
-use Rattle.model.specs.Packets.{Arrival, slotsUntil, following}
+use Rattle.model.specs.Packets.{Arrival, slotsUntil}
 use Rattle.model.specs.Record.{fateNumber, lossFate, Entry, Row}
 use Rattle.model.specs.Rules.{hasFate, notAfterLast}
-use Rattle.model.specs.Course.{Step, Policy, Decision, held, rejected, losing, entriesOf, sendOldest, slotEnds, course}
+use Rattle.model.specs.Course.{Policy, Decision, held, rejected, losing, entriesOf, sendOldest, slotEnds, course}
 use Rattle.laws.proofs.Times.{times, timesEntered}
 use Rattle.laws.proofs.Fifo.{Parted, none, goes, stays, Fifo}
 use Rattle.laws.proofs.Conserving.{slotEnds-induction}

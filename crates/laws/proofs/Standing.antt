@@ -1,12 +1,12 @@
 -- How a course of a policy goes from one moment to the next: its numbers go on rising, and each entry that it makes is made between the two moments.
-use Prim.Native.Nat.{ℕ, zero, suc, _+_, _-_, _≤_, _<_, min}
+use Prim.Native.Nat.{ℕ, suc, _+_, _≤_}
 use native.Mathlib.Omega.{arith}
-use mathlib.Core.Path.{_≡_, refl, sym, _∙_}
+use mathlib.Core.Path.{_≡_}
 use mathlib.Core.List.{List, [], _∷_, _++_, append-assoc}
 use lib.ListN.{length, getD}
 use Rattle.model.specs.declared.Packet.{Packet}
 use Rattle.model.specs.declared.Slot.{Slot}
-use Rattle.model.specs.Packets.{Arrival, nobody, slotsUntil, following}
+use Rattle.model.specs.Packets.{Arrival, nobody, slotsUntil}
 use Rattle.model.specs.Record.{Entry}
 use Rattle.model.specs.Course.{Step, Policy, Decided, entriesOf, sendOldest, andThen, slotEnds, course}
 use Rattle.laws.proofs.Fifo.{Fair, holds, rejects, loses, Fifo}
