@@ -5,7 +5,8 @@ use mathlib.Core.Path.{_≡_, refl}
 use mathlib.Core.List.{List, [], _∷_, _++_}
 use Rattle.model.specs.Record.{Entry}
 use Rattle.laws.proofs.Times.{times, timesEntered}
-use Rattle.laws.proofs.Entered.{eqb-cases, entryOf}
+use Rattle.laws.proofs.Cases.{eqb-cases}
+use Rattle.laws.proofs.Entered.{entryOf}
 
 abbrev pub All : (Entry → Type 0) → List Entry → Type 0
 All Q [] = Unit {0}

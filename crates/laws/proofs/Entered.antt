@@ -3,24 +3,16 @@
 use Prim.Native.Nat.{ℕ, suc, _+_, _<_}
 use native.Mathlib.Omega.{arith}
 use mathlib.Core.Path.{_≡_, refl, sym, _∙_}
-use mathlib.Core.Bool.{Bool, true, false, cond}
+use mathlib.Core.Bool.{cond}
 use mathlib.Core.List.{List, [], _∷_, map}
 use lib.ListN.{length, getD, set, length-set, length-replicate}
 use lib.Seq.{getD-set-same, getD-set-other, ext-getD}
 use lib.Dec.{eqb}
-use borrow.Author.Tests.{eqb-true, eqb-false}
 use Rattle.model.specs.declared.Fate.the-variants.{Sent}
 use Rattle.model.specs.Packets.{Arrival, placeOf, arrivalsFrom, arrivals}
 use Rattle.model.specs.Record.{fateNumber, Entry, Lists, enter, entered, blank, recordOf, Row, rowsOf, rows}
+use Rattle.laws.proofs.Cases.{eqb-cases}
 use Rattle.laws.proofs.Times.{times, timesEntered}
-
--- two numbers are equal or not, with what the test says
-pub eqb-cases : (m n : ℕ) (G : Type 0) → (eqb m n ≡ true → m ≡ n → G) → (eqb m n ≡ false → (m ≡ n → ⊥) → G) → G
-eqb-cases m n G same other = go (eqb m n) refl
-  where
-    go : (t : Bool) → eqb m n ≡ t → G
-    go true e = same e (eqb-true m n e)
-    go false e = other e (eqb-false m n e)
 
 -- the entry of packet n
 unfoldable pub entryOf : ℕ → List Entry → Entry

@@ -16,7 +16,8 @@ use Rattle.model.specs.Course.{Policy, course}
 use Rattle.laws.proofs.Times.{times, times-append, ofEntry, timesEntered, timesHeld, timesArriving}
 use Rattle.laws.proofs.Fifo.{Fifo}
 use Rattle.laws.proofs.Conserving.{conserving, course-conserves}
-use Rattle.laws.proofs.Entered.{eqb-cases, entryOf, EnteredOnce, rowOf, rowsBy}
+use Rattle.laws.proofs.Cases.{eqb-cases}
+use Rattle.laws.proofs.Entered.{entryOf, EnteredOnce, rowOf, rowsBy}
 use Rattle.laws.proofs.Rising.{Rising, rising-bounds}
 use Rattle.laws.proofs.All.{All, all-append, all-weaken, all-entryOf, entryOf-number, entryOf-first, entryOf-second}
 use Rattle.laws.proofs.Moments.{heldBy, isHeldAt-heldBy, Since, gone-later}

@@ -16,6 +16,7 @@ use Rattle.model.specs.Record.{Lists, flushedAt}
 use Rattle.model.specs.Course.{first}
 use Rattle.model.specs.Refusals.{mfRefusal}
 use Rattle.model.specs.Policies.MF.{Marking, Marked, markOf, isMarked, goesWith, markDown, markFrom, marksAfter, flushed, mfPolicy, unmarked}
+use Rattle.laws.proofs.Cases.{cond-cases}
 use Rattle.laws.proofs.Fifo.{fifo-mf}
 use Rattle.laws.proofs.Conserving.{conserving-mf}
 use Rattle.laws.proofs.Rising.{Rising, rising-bounds, rising-take}
@@ -51,19 +52,15 @@ module _ (last : ℕ) where
   set-fits marks i v low high fit k marked =
       getD-set-either marks i k v _ (λ e h. omega arith) λ h. rw h (fit k (rw h at marked))
 
-  cond-fits : (t : Bool) (x y : List ℕ) → MarksFit last x → MarksFit last y → MarksFit last (cond t x y)
-  cond-fits true x y hx hy = hx
-  cond-fits false x y hx hy = hy
-
   markDown-fits : (lo n : ℕ) (marking : PacketNumber) (older : List Packet) (marks : List ℕ) → marking .0 ≤ last → Below (marking .0) older →
       MarksFit last marks → MarksFit last (markDown lo n marking older marks)
   unfolding markDown
   markDown-fits lo n marking [] marks h b fit = fit
   markDown-fits lo zero marking (p ∷ older) marks h b fit = fit
   markDown-fits lo (suc n) marking (p ∷ older) marks h b fit =
-      cond-fits (eqb (p .value) lo && not (isMarked marks p)) _ _
-      (markDown-fits lo n marking older _ h (b .2) (set-fits marks (placeOf (p .number)) (marking .0) (omega (arith, b .0, b .1)) h fit))
-      (markDown-fits lo (suc n) marking older marks h (b .2) fit)
+      cond-cases (MarksFit last) (eqb (p .value) lo && not (isMarked marks p)) _ _
+      (λ e. markDown-fits lo n marking older _ h (b .2) (set-fits marks (placeOf (p .number)) (marking .0) (omega (arith, b .0, b .1)) h fit))
+      (λ e. markDown-fits lo (suc n) marking older marks h (b .2) fit)
 
   markFrom-fits : (M : Marking) (slots : List ℕ) (now : Slot) (low : ℕ) (older queue : List Packet) (marks : List ℕ) →
       Below (suc low) older → Rising low last queue → MarksFit last marks → MarksFit last (markFrom M slots now older queue marks)
@@ -73,10 +70,10 @@ module _ (last : ℕ) where
       markFrom-fits M slots now (p .number .0) (p ∷ older) queue _
       (omega (arith, rising .0), omega arith, below-wider (suc low) (suc (p .number .0)) older (omega (arith, rising .0)) b)
       (rising .1)
-      (cond-fits (eqb (p .value) (M .hi) && eqb (slotOf slots (p .number) .0) (now .0)) _ _
-      (markDown-fits (M .lo) (M .r) (p .number) older marks (rising-bounds (p .number .0) last queue (rising .1))
+      (cond-cases (MarksFit last) (eqb (p .value) (M .hi) && eqb (slotOf slots (p .number) .0) (now .0)) _ _
+      (λ e. markDown-fits (M .lo) (M .r) (p .number) older marks (rising-bounds (p .number .0) last queue (rising .1))
       (below-wider (suc low) (p .number .0) older (rising .0) b) fit)
-      fit)
+      (λ e. fit))
 
   -- who is flushed has a mark
   flushed-fits : (now : Slot) (m low : ℕ) (marks : List ℕ) (queue : List Packet) → Rising low last queue → MarksFit last marks →

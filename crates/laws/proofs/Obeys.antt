@@ -10,7 +10,8 @@ use Rattle.model.specs.Packets.{Arrival}
 use Rattle.model.specs.Record.{fateNumber, Entry, Row}
 use Rattle.model.specs.Rules.{Faultless, ObeysFrom, hasFate, fateOutside, byWrong, whenWrong, notLater, overRoom, heldAfter}
 use Rattle.model.specs.Totals.{mostHeldFrom}
-use Rattle.laws.proofs.Entered.{eqb-cases, entryOf, EnteredOnce, rowsBy}
+use Rattle.laws.proofs.Cases.{eqb-cases}
+use Rattle.laws.proofs.Entered.{entryOf, EnteredOnce, rowsBy}
 use Rattle.laws.proofs.WellFormed.{fateNumber-within}
 use Rattle.laws.proofs.All.{All, all-entryOf, entryOf-number}
 use Rattle.laws.proofs.Moments.{Since, Next}

@@ -19,7 +19,8 @@ use Rattle.model.specs.Course.{Policy, Decision, held, rejected, losing, entrie
 use Rattle.laws.proofs.Times.{times, timesEntered}
 use Rattle.laws.proofs.Fifo.{Parted, none, goes, stays, Fifo}
 use Rattle.laws.proofs.Conserving.{slotEnds-induction}
-use Rattle.laws.proofs.Entered.{eqb-cases, entryOf, EnteredOnce}
+use Rattle.laws.proofs.Cases.{eqb-cases}
+use Rattle.laws.proofs.Entered.{entryOf, EnteredOnce}
 use Rattle.laws.proofs.Rising.{Rising, rising-fair, rising-parted}
 use Rattle.laws.proofs.Standing.{Comes}
 use Rattle.laws.proofs.Held.{Older}

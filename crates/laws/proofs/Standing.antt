@@ -11,7 +11,7 @@ use Rattle.model.specs.Record.{Entry}
 use Rattle.model.specs.Course.{Step, Policy, Decided, entriesOf, sendOldest, andThen, slotEnds, course}
 use Rattle.laws.proofs.Fifo.{Fair, holds, rejects, loses, Fifo}
 use Rattle.laws.proofs.Conserving.{slotEnds-induction}
-use Rattle.laws.proofs.Entered.{eqb-cases}
+use Rattle.laws.proofs.Cases.{eqb-cases}
 use Rattle.laws.proofs.Rising.{Rising, rising-bounds, rising-fair, rising-parted, rising-sent, rising-at}
 use Rattle.laws.proofs.All.{All, all-append, all-weaken}
 use Rattle.laws.proofs.Moments.{Since, Between, since-earlier, gone-later, FlushedBy, Arrived, sent-between, flushed-between, Next, rejected-between, lost-between}

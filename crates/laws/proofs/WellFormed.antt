@@ -23,7 +23,8 @@ use Rattle.model.specs.Policies.MF.{Marking, unmarked, mfRun}
 use Rattle.model.specs.Policies.Plan.{planKept, planRun}
 use Rattle.laws.proofs.Times.{times, timesArriving}
 use Rattle.laws.proofs.Conserving.{Conserving, course-conserves, conserving-greedy, conserving-pg, conserving-kept, conserving-mf}
-use Rattle.laws.proofs.Entered.{eqb-cases, EnteredOnce, Sized, blank-sized, entered-sized, entered-says, entered-all, entryOf, rowOf, rowsBy, rows-said}
+use Rattle.laws.proofs.Cases.{eqb-cases}
+use Rattle.laws.proofs.Entered.{EnteredOnce, Sized, blank-sized, entered-sized, entered-says, entered-all, entryOf, rowOf, rowsBy, rows-said}
 
 -- the five tallies of a record add up to a sixth, by whatever is counted
 pub record AddUp (of : Tally → ℕ) (rows : List Row) : Type 0 where
