@@ -122,7 +122,8 @@ comes-none slots n now last (a ∷ trace) h C =
 abbrev pub nextRow : List Entry → Arrival → Row
 nextRow entries a = rowOf a (entryOf (a .packet .number .0) entries)
 
-pub next-tells : (entries : List Entry) (last : ℕ) (a : Arrival) → a .packet .number .0 ≡ suc last → Tells (suc last) (nextRow entries a) (entryOf (suc last) entries)
+pub next-tells : (entries : List Entry) (last : ℕ) (a : Arrival) → a .packet .number .0 ≡ suc last →
+    Tells (suc last) (nextRow entries a) (entryOf (suc last) entries)
 next-tells entries last a e = record { number-told = e; fate = rw e; when = rw e; by = rw e }
 
 -- after every arrival of a trace fault 15 counts, in the trace's rows, what the queue holds

@@ -4,11 +4,10 @@ use Prim.Native.Nat.{ℕ, _≤_}
 use native.Mathlib.Omega.{arith}
 use mathlib.Core.Path.{_≡_, refl}
 use mathlib.Core.List.{List, []}
-use lib.ListN.{length}
 use Rattle.model.specs.declared.Beta.{Beta}
 use Rattle.model.specs.declared.Packet.{Packet}
 use Rattle.model.specs.Packets.{arrivals}
-use Rattle.model.specs.Record.{Lists, recordOf, rows}
+use Rattle.model.specs.Record.{Lists}
 use Rattle.model.specs.Rules.{Obeys}
 use Rattle.model.specs.Totals.{mostHeldFrom}
 use Rattle.model.specs.Course.{Policy, Decided, byRule, course, first}
@@ -18,7 +17,7 @@ use Rattle.model.specs.Policies.PG.{pgRule}
 use Rattle.model.specs.Policies.Plan.{planKept, keptRule}
 use Rattle.laws.proofs.Fifo.{Fair, Fifo, fifo-byRule, greedy-fair, pg-fair, kept-fair}
 use Rattle.laws.proofs.Conserving.{conserving, conserving-greedy, conserving-pg}
-use Rattle.laws.proofs.Entered.{rowsBy, rows-said}
+use Rattle.laws.proofs.Entered.{rowsBy, recorded, rows-said}
 use Rattle.laws.proofs.WellFormed.{course-once}
 use Rattle.laws.proofs.All.{all-weaken}
 use Rattle.laws.proofs.Moments.{Since, since-earlier}
@@ -31,11 +30,10 @@ use Rattle.laws.proofs.Accepted.{Accepted, plain-accepted, pg-accepted}
 
 -- a policy's run on a trace, from the state s
 pub record Lawful {S : Type 0} (P : Policy S) (s : S) (slots values : List ℕ) (room : ℕ) : Type 0 where
-  pub held : HeldAgrees P first s [] (rows (arrivals slots values) (recordOf (length slots) (course P first s (arrivals slots values)))) (arrivals slots values)
-  pub most : mostHeldFrom [] (rows (arrivals slots values) (recordOf (length slots) (course P first s (arrivals slots values))))
-      ≡ mostQueue P first s (arrivals slots values)
+  pub held : HeldAgrees P first s [] (recorded slots values (course P first s (arrivals slots values))) (arrivals slots values)
+  pub most : mostHeldFrom [] (recorded slots values (course P first s (arrivals slots values))) ≡ mostQueue P first s (arrivals slots values)
   pub within-room : mostQueue P first s (arrivals slots values) ≤ room
-  pub obeys : Obeys (record { slots = slots; room = room }) (rows (arrivals slots values) (recordOf (length slots) (course P first s (arrivals slots values))))
+  pub obeys : Obeys (record { slots = slots; room = room }) (recorded slots values (course P first s (arrivals slots values)))
 
 pub lawful : {S : Type 0} {P : Policy S} {F : Fifo P} {Fit : ℕ → S → Type 0} → Marks F Fit → (s : S) → P .held s ≡ [] → Fit 0 s →
     (slots values : List ℕ) (room : ℕ) (lists : Lists) → Accepted slots values room lists →
@@ -82,7 +80,8 @@ module _ (slots values : List ℕ) (room : ℕ) (lists : Lists) where
       by-rule (pgRule room beta) (λ queue p. pg-fair queue p room beta) (pg-accepted slots values room lists beta z)
       (mostQueue-roomy (conserving-pg room beta) room (roomy-pg room beta) first [] (arrivals slots values) (omega arith))
 
-  pub lawful-plan : plainRefusal slots values room lists .number ≡ 0 → Lawful (byRule (keptRule (planKept room (arrivals slots values)))) [] slots values room
+  pub lawful-plan : plainRefusal slots values room lists .number ≡ 0 →
+      Lawful (byRule (keptRule (planKept room (arrivals slots values)))) [] slots values room
   lawful-plan z =
       let kept = planKept room (arrivals slots values) in
       by-rule (keptRule kept) (λ queue p. kept-fair queue p kept) (plain-accepted slots values room lists z) (mostQueue-plan room (arrivals slots values))

@@ -39,7 +39,8 @@ module _ (slots : List ℕ) where
         counted = N .counted;
       }
 
-  between-wider : (now last now′ last′ from till : ℕ) → from ≤ now → now′ ≤ till → (e : Entry) → Between slots now last now′ last′ e → Between slots from last till last′ e
+  between-wider : (now last now′ last′ from till : ℕ) → from ≤ now → now′ ≤ till → (e : Entry) → Between slots now last now′ last′ e →
+      Between slots from last till last′ e
   between-wider now last now′ last′ from till a b e h =
       record { since = since-earlier slots from last now last a (omega arith) e (h .since); gone = gone-later now′ last′ till last′ b (omega arith) e (h .gone) }
 
