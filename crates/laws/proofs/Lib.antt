@@ -18,3 +18,4 @@ pub mod Room
 pub mod Accepted
 pub mod Lawful
 pub mod LawfulMF
+pub mod Audited
