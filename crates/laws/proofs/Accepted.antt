@@ -1,8 +1,8 @@
 -- A trace that no call refuses has a value for each slot, and its packets come in number order in slots that never go down.
-use Prim.Native.Nat.{ℕ, zero, suc, _+_, _≤_, _<_, max}
+use Prim.Native.Nat.{ℕ, suc, _+_, _≤_, max}
 use native.Mathlib.Omega.{arith}
 use mathlib.Core.Path.{_≡_, refl}
-use mathlib.Core.Bool.{Bool, true, false, not, _&&_, and-eq-true-iff}
+use mathlib.Core.Bool.{Bool, true, _&&_, and-eq-true-iff}
 use mathlib.Core.List.{List, [], _∷_}
 use lib.ListN.{length, getD}
 use lib.Dec.{leb, eqb}
@@ -10,14 +10,13 @@ use borrow.Author.Tests.{leb-true, eqb-true, not-false}
 use Rattle.model.specs.declared.Beta.{Beta}
 use Rattle.model.specs.declared.Slot.{Slot}
 use Rattle.model.specs.Limits.{recordLimits, portLimits, within}
-use Rattle.model.specs.Packets.{Arrival, arrivalsFrom, arrivals}
+use Rattle.model.specs.Packets.{arrivalsFrom, arrivals}
 use Rattle.model.specs.Record.{Lists}
-use Rattle.model.specs.Rules.{Verdict, orElse}
+use Rattle.model.specs.Rules.{Verdict}
 use Rattle.model.specs.Refusals.{slotOk, packetRefusalFrom, traceRefusal, plainRefusal, pgRefusal, mfRefusal}
 use Rattle.model.specs.Policies.MF.{Marking}
 use Rattle.laws.proofs.FirstFault.{orElse-zero, verdictIf-zero}
 use Rattle.laws.proofs.Entered.{Sized}
-use Rattle.laws.proofs.Moments.{Next}
 use Rattle.laws.proofs.Standing.{Comes}
 
 pub record Accepted (slots values : List ℕ) (room : ℕ) (lists : Lists) : Type 0 where

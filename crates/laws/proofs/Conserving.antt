@@ -1,10 +1,10 @@
 -- No packet is made or unmade: whatever leaves the queue is entered, once. So in a whole course each packet that was held or that arrives is entered as
 -- often as it was there, since after the last arrival slots go on until nothing is held.
-use Prim.Native.Nat.{ℕ, zero, suc, _+_, _-_, _≤_, _<_, min}
+use Prim.Native.Nat.{ℕ, zero, suc, _+_, _-_, _≤_, min}
 use native.Mathlib.Omega.{arith}
 use mathlib.Core.Path.{_≡_, refl}
 use mathlib.Core.List.{List, [], _∷_, _++_}
-use lib.ListN.{length, getD, take, drop}
+use lib.ListN.{length, take, drop}
 use Rattle.model.specs.declared.Beta.{Beta}
 use Rattle.model.specs.declared.Packet.{Packet}
 use Rattle.model.specs.declared.Slot.{Slot}
@@ -60,19 +60,23 @@ module _ {S : Type 0} where
   conserving F =
       record {
         arrival = λ n a s. rw (F .arrive-enters a s, F .arrive-holds a s) (fair-conserves n a (F .fair s (a .packet)));
-        finish = λ n now s. rw (F .finish-enters now s, F .finish-holds now s, times-append ofEntry) (omega (arith, parted-conserves n (F .parted now s), send-conserves n now (F .leaves now s)));
+        finish = λ n now s.
+            rw (F .finish-enters now s, F .finish-holds now s, times-append ofEntry)
+            (omega (arith, parted-conserves n (F .parted now s), send-conserves n now (F .leaves now s)));
         shorter = λ now s. rw (F .finish-holds now s) (omega (arith, parted-shorter (F .parted now s), send-shorter now (F .leaves now s)));
       }
 
-  unlessHeld-cases : (Q : Step S → Type 0) (queue : List Packet) (quiet busy : Step S) → (length queue ≡ 0 → Q quiet) → Q busy → Q (unlessHeld queue quiet busy)
+  unlessHeld-cases : (Q : Step S → Type 0) (queue : List Packet) (quiet busy : Step S) → (length queue ≡ 0 → Q quiet) → Q busy →
+      Q (unlessHeld queue quiet busy)
   unlessHeld-cases Q [] quiet busy h k = h refl
   unlessHeld-cases Q (p ∷ queue) quiet busy h k = k
 
   module _ (P : Policy S) where
-    -- what holds of a step that does nothing, where no slot ends or nothing is held, and is carried back over each end of a slot, holds of all ends of slots
+    -- what holds where no slot ends or nothing is held, and is carried back over each end of a slot, holds of all ends of slots
     pub slotEnds-induction : (Q : ℕ → Slot → S → Step S → Type 0) →
         ((k : ℕ) (now : Slot) (s : S) → min k (length (P .held s)) ≡ 0 → Q k now s (record { entries = []; next = s })) →
-        ((k : ℕ) (now : Slot) (s : S) (step : Step S) → Q k (following now) (P .finish now s .next) step → Q (suc k) now s (andThen (P .finish now s .entries) step)) →
+        ((k : ℕ) (now : Slot) (s : S) (step : Step S) → Q k (following now) (P .finish now s .next) step →
+        Q (suc k) now s (andThen (P .finish now s .entries) step)) →
         (k : ℕ) (now : Slot) (s : S) → Q k now s (slotEnds P k now s)
     unfolding slotEnds
     slotEnds-induction Q quiet busy zero now s = quiet zero now s (omega arith)

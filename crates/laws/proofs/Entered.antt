@@ -1,26 +1,18 @@
 -- What a record says of a packet that is entered once is that entry, whatever its lists held before: the entry is written at its own place, and no other
 -- entry is written there.
-use Prim.Native.Nat.{ℕ, zero, suc, _+_, _-_, _≤_, _<_}
+use Prim.Native.Nat.{ℕ, suc, _+_, _<_}
 use native.Mathlib.Omega.{arith}
-use mathlib.Core.Path.{_≡_, refl, sym, _∙_, ap}
-use mathlib.Core.Bool.{Bool, true, false, cond}
+use mathlib.Core.Path.{_≡_, refl, sym, _∙_}
+use mathlib.Core.Bool.{cond}
 use mathlib.Core.List.{List, [], _∷_, map}
-use lib.ListN.{length, getD, set, replicate, length-set, length-replicate}
+use lib.ListN.{length, getD, set, length-set, length-replicate}
 use lib.Seq.{getD-set-same, getD-set-other, ext-getD}
 use lib.Dec.{eqb}
-use borrow.Author.Tests.{eqb-true, eqb-false}
 use Rattle.model.specs.declared.Fate.the-variants.{Sent}
 use Rattle.model.specs.Packets.{Arrival, placeOf, arrivalsFrom, arrivals}
 use Rattle.model.specs.Record.{fateNumber, Entry, Lists, enter, entered, blank, recordOf, Row, rowsOf, rows}
+use Rattle.laws.proofs.Cases.{eqb-cases}
 use Rattle.laws.proofs.Times.{times, timesEntered}
-
--- two numbers are equal or not, with what the test says
-pub eqb-cases : (m n : ℕ) (G : Type 0) → (eqb m n ≡ true → m ≡ n → G) → (eqb m n ≡ false → (m ≡ n → ⊥) → G) → G
-eqb-cases m n G same other = go (eqb m n) refl
-  where
-    go : (t : Bool) → eqb m n ≡ t → G
-    go true e = same e (eqb-true m n e)
-    go false e = other e (eqb-false m n e)
 
 -- the entry of packet n
 unfoldable pub entryOf : ℕ → List Entry → Entry
@@ -42,7 +34,12 @@ abbrev byOf : Entry → ℕ
 byOf e = e .by .0
 
 entered-written : (entries : List Entry) (lists : Lists) →
-    entered entries lists ≡ record { fates = written fateOf entries (lists .fates); whens = written whenOf entries (lists .whens); bys = written byOf entries (lists .bys) }
+    entered entries lists
+    ≡ record {
+      fates = written fateOf entries (lists .fates);
+      whens = written whenOf entries (lists .whens);
+      bys = written byOf entries (lists .bys);
+    }
 unfolding entered written
 entered-written [] lists = refl
 entered-written (e ∷ entries) lists = entered-written entries (enter e lists)
@@ -107,9 +104,9 @@ pub record Says (k : ℕ) (lists : Lists) (e : Entry) : Type 0 where
 says-all : (packets : ℕ) (entry : ℕ → Entry) (x y : Lists) → Sized packets x → Sized packets y →
     ((k : ℕ) → k < packets → Says k x (entry k)) → ((k : ℕ) → k < packets → Says k y (entry k)) → x ≡ y
 says-all packets entry x y a b sx sy =
-    let fates = ext-getD 0 (x .fates) (y .fates) (a .fates ∙ sym (b .fates)) (λ k h. sx k (omega (arith, a .fates)) .fate ∙ sym (sy k (omega (arith, a .fates)) .fate)) in
-    let whens = ext-getD 0 (x .whens) (y .whens) (a .whens ∙ sym (b .whens)) (λ k h. sx k (omega (arith, a .whens)) .when ∙ sym (sy k (omega (arith, a .whens)) .when)) in
-    let bys = ext-getD 0 (x .bys) (y .bys) (a .bys ∙ sym (b .bys)) (λ k h. sx k (omega (arith, a .bys)) .by ∙ sym (sy k (omega (arith, a .bys)) .by)) in
+    let fates = ext-getD 0 (x .fates) (y .fates) (a .fates ∙ sym (b .fates)) (λ k h. sx k (rw (← a .fates) h) .fate ∙ sym (sy k (rw (← a .fates) h) .fate)) in
+    let whens = ext-getD 0 (x .whens) (y .whens) (a .whens ∙ sym (b .whens)) (λ k h. sx k (rw (← a .whens) h) .when ∙ sym (sy k (rw (← a .whens) h) .when)) in
+    let bys = ext-getD 0 (x .bys) (y .bys) (a .bys ∙ sym (b .bys)) (λ k h. sx k (rw (← a .bys) h) .by ∙ sym (sy k (rw (← a .bys) h) .by)) in
     λ i. record { fates = fates i; whens = whens i; bys = bys i }
 
 module _ (packets : ℕ) (entries : List Entry) (O : EnteredOnce packets entries) (before : Lists) (b : Sized packets before) where
@@ -168,9 +165,12 @@ rows-saidFrom entries n (s ∷ slots) (v ∷ values) (f ∷ fates) (w ∷ whens)
     (rows-saidFrom entries (suc n) slots values fates whens bys (omega arith) (omega arith)
     (λ k m h e. let there = says (suc k) m (omega arith) (omega arith) in record { fate = there .fate; when = there .when; by = there .by })))
 
--- the rows of the record that the entries make
+-- the rows of a trace and of the record that the entries make
+abbrev pub recorded : List ℕ → List ℕ → List Entry → List Row
+recorded slots values entries = rows (arrivals slots values) (recordOf (length slots) entries)
+
 pub rows-said : (slots values : List ℕ) (entries : List Entry) → length values ≡ length slots → EnteredOnce (length slots) entries →
-    rows (arrivals slots values) (recordOf (length slots) entries) ≡ rowsBy entries (arrivals slots values)
+    recorded slots values entries ≡ rowsBy entries (arrivals slots values)
 rows-said slots values entries l O =
     let b = blank-sized (length slots) in
     rows-saidFrom entries 1 slots values _ _ _ l (entered-sized (length slots) entries (blank (length slots)) b)

@@ -1,12 +1,11 @@
 -- The four policies are first in, first out: an arrival enters at the back or not at all, losses leave from anywhere, and at a slot's end, once the flushed
 -- are gone, the oldest is sent.
-use Prim.Native.Nat.{ℕ, zero, suc, _+_, _≤_, _<_}
-use mathlib.Core.Path.{_≡_, refl, subst, sym}
+use Prim.Native.Nat.{ℕ, _<_}
+use mathlib.Core.Path.{_≡_, refl}
 use mathlib.Core.Bool.{Bool, true, false, cond}
 use mathlib.Core.List.{List, [], _∷_, _++_}
-use lib.ListN.{length, getD, take, drop}
+use lib.ListN.{length, getD}
 use lib.Dec.{eqb, ltb}
-use borrow.Author.Tests.{ltb-true}
 use Rattle.model.specs.declared.Beta.{Beta}
 use Rattle.model.specs.declared.LossKind.{LossKind}
 use Rattle.model.specs.declared.LossKind.the-variants.{PushedOut, Preempted}
@@ -16,10 +15,11 @@ use Rattle.model.specs.declared.Slot.{Slot}
 use Rattle.model.specs.Packets.{Arrival, nobody, valuesOf}
 use Rattle.model.specs.Record.{Entry, flushedAt}
 use Rattle.model.specs.Course.{Policy, Decided, held, rejected, losing, entriesOf, sendOldest, byRule}
-use Rattle.model.specs.Policies.Greedy.{without, loserAt, overflow, greedyRule}
+use Rattle.model.specs.Policies.Greedy.{without, loserAt, greedyRule}
 use Rattle.model.specs.Policies.PG.{preemptedAt, pgRule}
-use Rattle.model.specs.Policies.MF.{Marking, Marked, markOf, goesWith, flushed, unflushed, headMark, marksAfter, mfPolicy}
+use Rattle.model.specs.Policies.MF.{Marking, markOf, goesWith, flushed, unflushed, headMark, marksAfter, mfPolicy}
 use Rattle.model.specs.Policies.Plan.{keptOf, keptRule}
+use Rattle.laws.proofs.Cases.{cond-cases, below-cases}
 
 -- the arrival is held, or rejected, or held at the cost of the packet at one place
 pub data Fair (queue : List Packet) (p : Packet) : Decided → Type 0 where
@@ -72,47 +72,22 @@ fifo-byRule rule fair =
     }
 
 module _ (queue : List Packet) (p : Packet) where
-  -- at a place that is found among the held packets the packet is lost, else another decision is taken
-  fair-loses : (place : ℕ) (kind : LossKind) (other : Decided) → Fair queue p other →
-      Fair queue p
-      (cond (ltb place (length queue))
-      (record {
-        decision = losing (record { packet = getD queue place nobody; kind = kind });
-        queue = without place queue ++ p ∷ [];
-      })
-      other)
-  fair-loses place kind other h = go (ltb place (length queue)) refl
-    where
-      go : (t : Bool) → ltb place (length queue) ≡ t →
-          Fair queue p
-          (cond t
-          (record {
-            decision = losing (record { packet = getD queue place nobody; kind = kind });
-            queue = without place queue ++ p ∷ [];
-          })
-          other)
-      go true e = loses place kind (ltb-true place (length queue) e)
-      go false e = h
-
   pub greedy-fair : (room : ℕ) → Fair queue p (greedyRule room queue p)
   unfolding greedyRule
-  greedy-fair room = go (ltb (length queue) room)
-    where
-      go : (t : Bool) → Fair queue p (cond t (record { decision = held; queue = queue ++ p ∷ [] }) (overflow queue p))
-      go true = holds
-      go false = fair-loses (loserAt (valuesOf (queue ++ p ∷ []))) PushedOut (record { decision = rejected; queue = queue }) rejects
+  greedy-fair room =
+      let loser = loserAt (valuesOf (queue ++ p ∷ [])) in
+      cond-cases (Fair queue p) (ltb (length queue) room) _ _ (λ e. holds)
+      λ e. below-cases (Fair queue p) loser (length queue) _ _ (λ b. loses loser PushedOut b) (λ b. rejects)
 
   pub pg-fair : (room : ℕ) (beta : Beta) → Fair queue p (pgRule room beta queue p)
   unfolding pgRule
-  pg-fair room beta = fair-loses (preemptedAt beta (p .value) (valuesOf queue)) Preempted (greedyRule room queue p) (greedy-fair room)
+  pg-fair room beta =
+      let place = preemptedAt beta (p .value) (valuesOf queue) in
+      below-cases (Fair queue p) place (length queue) _ _ (λ b. loses place Preempted b) (λ b. greedy-fair room)
 
   pub kept-fair : (kept : List ℕ) → Fair queue p (keptRule kept queue p)
   unfolding keptRule
-  kept-fair kept = go (eqb (keptOf kept (p .number)) 1)
-    where
-      go : (t : Bool) → Fair queue p (cond t (record { decision = held; queue = queue ++ p ∷ [] }) (record { decision = rejected; queue = queue }))
-      go true = holds
-      go false = rejects
+  kept-fair kept = cond-cases (Fair queue p) (eqb (keptOf kept (p .number)) 1) _ _ (λ e. holds) (λ e. rejects)
 
 pub flush-parted : (now : Slot) (m : ℕ) (marks : List ℕ) (queue : List Packet) → Parted now queue (flushed now m marks queue) (unflushed m marks queue)
 unfolding flushed unflushed

@@ -2,11 +2,10 @@
 -- that is when the queue has it. So the most held of a record is the longest queue just after an arrival.
 use Prim.Native.Nat.{ℕ, zero, suc, _+_, _≤_, _<_, max}
 use native.Mathlib.Omega.{arith}
-use mathlib.Core.Path.{_≡_, refl, sym, _∙_, ap}
-use mathlib.Core.Bool.{Bool, true, false, cond}
+use mathlib.Core.Path.{_≡_, refl, sym, _∙_}
+use mathlib.Core.Bool.{false, cond}
 use mathlib.Core.List.{List, [], _∷_, _++_, append-assoc}
 use lib.ListN.{length}
-use lib.Dec.{eqb}
 use Rattle.model.specs.declared.Packet.{Packet}
 use Rattle.model.specs.declared.Slot.{Slot}
 use Rattle.model.specs.Packets.{Arrival}
@@ -16,8 +15,9 @@ use Rattle.model.specs.Totals.{mostHeldFrom}
 use Rattle.model.specs.Course.{Policy, course}
 use Rattle.laws.proofs.Times.{times, times-append, ofEntry, timesEntered, timesHeld, timesArriving}
 use Rattle.laws.proofs.Fifo.{Fifo}
-use Rattle.laws.proofs.Conserving.{Conserving, conserving, course-conserves}
-use Rattle.laws.proofs.Entered.{eqb-cases, entryOf, EnteredOnce, rowOf, rowsBy}
+use Rattle.laws.proofs.Conserving.{conserving, course-conserves}
+use Rattle.laws.proofs.Cases.{eqb-cases}
+use Rattle.laws.proofs.Entered.{entryOf, EnteredOnce, rowOf, rowsBy}
 use Rattle.laws.proofs.Rising.{Rising, rising-bounds}
 use Rattle.laws.proofs.All.{All, all-append, all-weaken, all-entryOf, entryOf-number, entryOf-first, entryOf-second}
 use Rattle.laws.proofs.Moments.{heldBy, isHeldAt-heldBy, Since, gone-later}
@@ -122,29 +122,33 @@ comes-none slots n now last (a ∷ trace) h C =
 abbrev pub nextRow : List Entry → Arrival → Row
 nextRow entries a = rowOf a (entryOf (a .packet .number .0) entries)
 
-pub next-tells : (entries : List Entry) (last : ℕ) (a : Arrival) → a .packet .number .0 ≡ suc last → Tells (suc last) (nextRow entries a) (entryOf (suc last) entries)
+pub next-tells : (entries : List Entry) (last : ℕ) (a : Arrival) → a .packet .number .0 ≡ suc last →
+    Tells (suc last) (nextRow entries a) (entryOf (suc last) entries)
 next-tells entries last a e = record { number-told = e; fate = rw e; when = rw e; by = rw e }
 
--- after every arrival fault 15 counts what the queue holds
-abbrev pub HeldAgrees : {S : Type 0} → Policy S → List Entry → Slot → S → List Row → List Arrival → Type 0
-HeldAgrees P entries now s older [] = Unit {0}
-HeldAgrees P entries now s older (a ∷ trace) =
-    (heldAfter older (nextRow entries a) ≡ length (P .held (turn P now s a .next)))
-    × HeldAgrees P entries (a .slot) (turn P now s a .next) (nextRow entries a ∷ older) trace
+-- after every arrival of a trace fault 15 counts, in the trace's rows, what the queue holds
+abbrev pub HeldAgrees : {S : Type 0} → Policy S → Slot → S → List Row → List Row → List Arrival → Type 0
+HeldAgrees P now s older [] [] = Unit {0}
+HeldAgrees P now s older [] (a ∷ trace) = ⊥
+HeldAgrees P now s older (r ∷ rows) [] = ⊥
+HeldAgrees P now s older (r ∷ rows) (a ∷ trace) =
+    (heldAfter older r ≡ length (P .held (turn P now s a .next))) × HeldAgrees P (a .slot) (turn P now s a .next) (r ∷ older) rows trace
 
-pub mostHeld-mostQueue : {S : Type 0} (P : Policy S) (entries : List Entry) (now : Slot) (s : S) (older : List Row) (trace : List Arrival) →
-    HeldAgrees P entries now s older trace → mostHeldFrom older (rowsBy entries trace) ≡ mostQueue P now s trace
+pub mostHeld-mostQueue : {S : Type 0} (P : Policy S) (now : Slot) (s : S) (older rows : List Row) (trace : List Arrival) →
+    HeldAgrees P now s older rows trace → mostHeldFrom older rows ≡ mostQueue P now s trace
 unfolding mostHeldFrom mostQueue
-mostHeld-mostQueue P entries now s older [] h = refl
-mostHeld-mostQueue P entries now s older (a ∷ trace) h =
-    rw (h .0, mostHeld-mostQueue P entries (a .slot) (turn P now s a .next) (nextRow entries a ∷ older) trace (h .1))
+mostHeld-mostQueue P now s older [] [] h = refl
+mostHeld-mostQueue P now s older [] (a ∷ trace) h = absurd h
+mostHeld-mostQueue P now s older (r ∷ rows) [] h = absurd h
+mostHeld-mostQueue P now s older (r ∷ rows) (a ∷ trace) h =
+    rw (h .0, mostHeld-mostQueue P (a .slot) (turn P now s a .next) (r ∷ older) rows trace (h .1))
 
 module _ {S : Type 0} {P : Policy S} {F : Fifo P} {Fit : ℕ → S → Type 0} (M : Marks F Fit) (slots : List ℕ) (entries : List Entry)
     (O : EnteredOnce (length slots) entries) where
   pub held-agrees : (past : List Entry) (older : List Row) (last : ℕ) (now : Slot) (s : S) (trace : List Arrival) →
       entries ≡ past ++ course P now s trace → All (λ e. heldBy (now .0) last e ≡ false) past → Older entries last older →
       Comes slots (now .0) last trace → Stands slots P Fit (now .0) last s →
-      HeldAgrees P entries now s older trace
+      HeldAgrees P now s older (rowsBy entries trace) trace
   held-agrees past older last now s [] parts gone told C T = tt
   held-agrees past older last now s (a ∷ trace) parts gone told C T =
       let step = turn P now s a in
@@ -157,9 +161,7 @@ module _ {S : Type 0} {P : Policy S} {F : Fifo P} {Fit : ℕ → S → Type 0} (
       (all-weaken _ _ (gone-later (now .0) last (a .slot .0) (suc last) (C .0 .later) (omega arith)) past gone)
       (all-weaken _ _ (λ e h. h .gone) (step .entries) (goes .between))
       in
-      let told′ : Older entries (suc last) (nextRow entries a ∷ older) =
-      (record { number-told = C .0 .number; fate = rw (C .0 .number); when = rw (C .0 .number); by = rw (C .0 .number) }, told)
-      in
+      let told′ : Older entries (suc last) (nextRow entries a ∷ older) = (next-tells entries last a (C .0 .number), told) in
       let here : heldAfter older (nextRow entries a) ≡ length (P .held (step .next)) =
       held-count entries past′ later slots (a .slot .0) (suc last) (P .held (step .next)) parts′ O (C .0 .counted) gone′
       (course-since M slots (suc last) (a .slot) (step .next) trace (C .1) (goes .stands))

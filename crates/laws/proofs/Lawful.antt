@@ -1,14 +1,13 @@
 -- The record of every run on an accepted trace obeys the rules, and its most held is the longest queue just after an arrival: what fault 15 counts is what
 -- the queue holds, and no policy holds more than room.
-use Prim.Native.Nat.{ℕ, zero, suc, _≤_, _<_}
+use Prim.Native.Nat.{ℕ, _≤_}
 use native.Mathlib.Omega.{arith}
-use mathlib.Core.Path.{_≡_, refl, _∙_}
-use mathlib.Core.List.{List, [], _∷_}
-use lib.ListN.{length}
+use mathlib.Core.Path.{_≡_, refl}
+use mathlib.Core.List.{List, []}
 use Rattle.model.specs.declared.Beta.{Beta}
 use Rattle.model.specs.declared.Packet.{Packet}
-use Rattle.model.specs.Packets.{Arrival, arrivals}
-use Rattle.model.specs.Record.{Entry, Lists, recordOf, rows}
+use Rattle.model.specs.Packets.{arrivals}
+use Rattle.model.specs.Record.{Lists}
 use Rattle.model.specs.Rules.{Obeys}
 use Rattle.model.specs.Totals.{mostHeldFrom}
 use Rattle.model.specs.Course.{Policy, Decided, byRule, course, first}
@@ -18,11 +17,11 @@ use Rattle.model.specs.Policies.PG.{pgRule}
 use Rattle.model.specs.Policies.Plan.{planKept, keptRule}
 use Rattle.laws.proofs.Fifo.{Fair, Fifo, fifo-byRule, greedy-fair, pg-fair, kept-fair}
 use Rattle.laws.proofs.Conserving.{conserving, conserving-greedy, conserving-pg}
-use Rattle.laws.proofs.Entered.{EnteredOnce, rowsBy, rows-said}
+use Rattle.laws.proofs.Entered.{rowsBy, recorded, rows-said}
 use Rattle.laws.proofs.WellFormed.{course-once}
-use Rattle.laws.proofs.All.{All, all-weaken}
+use Rattle.laws.proofs.All.{all-weaken}
 use Rattle.laws.proofs.Moments.{Since, since-earlier}
-use Rattle.laws.proofs.Standing.{Comes, Marks, Stands, course-since}
+use Rattle.laws.proofs.Standing.{Marks, Stands, course-since}
 use Rattle.laws.proofs.Held.{mostQueue, HeldAgrees, held-agrees, mostHeld-mostQueue}
 use Rattle.laws.proofs.Sends.{course-sends}
 use Rattle.laws.proofs.Obeys.{obeysFrom}
@@ -31,11 +30,10 @@ use Rattle.laws.proofs.Accepted.{Accepted, plain-accepted, pg-accepted}
 
 -- a policy's run on a trace, from the state s
 pub record Lawful {S : Type 0} (P : Policy S) (s : S) (slots values : List ℕ) (room : ℕ) : Type 0 where
-  pub held : HeldAgrees P (course P first s (arrivals slots values)) first s [] (arrivals slots values)
-  pub most : mostHeldFrom [] (rows (arrivals slots values) (recordOf (length slots) (course P first s (arrivals slots values))))
-      ≡ mostQueue P first s (arrivals slots values)
+  pub held : HeldAgrees P first s [] (recorded slots values (course P first s (arrivals slots values))) (arrivals slots values)
+  pub most : mostHeldFrom [] (recorded slots values (course P first s (arrivals slots values))) ≡ mostQueue P first s (arrivals slots values)
   pub within-room : mostQueue P first s (arrivals slots values) ≤ room
-  pub obeys : Obeys (record { slots = slots; room = room }) (rows (arrivals slots values) (recordOf (length slots) (course P first s (arrivals slots values))))
+  pub obeys : Obeys (record { slots = slots; room = room }) (recorded slots values (course P first s (arrivals slots values)))
 
 pub lawful : {S : Type 0} {P : Policy S} {F : Fifo P} {Fit : ℕ → S → Type 0} → Marks F Fit → (s : S) → P .held s ≡ [] → Fit 0 s →
     (slots values : List ℕ) (room : ℕ) (lists : Lists) → Accepted slots values room lists →
@@ -53,9 +51,9 @@ lawful {P} {F} {Fit} M s empty fit slots values room lists A fits =
     in
     let in-order = course-sends F slots 0 first s trace (A .comes) 0 0 (rw empty (omega arith)) (omega arith) in
     let agrees = held-agrees M slots entries once [] [] 0 first s trace refl tt tt (A .comes) stands in
-    let most = mostHeld-mostQueue P entries first s [] trace agrees in
+    let most = mostHeld-mostQueue P first s [] (rowsBy entries trace) trace agrees in
     record {
-      held = agrees;
+      held = rw said agrees;
       most = rw said most;
       within-room = fits;
       obeys = rw said (obeysFrom slots room entries once right in-order 1 0 trace [] (A .comes) tt (rw most fits));
@@ -82,7 +80,8 @@ module _ (slots values : List ℕ) (room : ℕ) (lists : Lists) where
       by-rule (pgRule room beta) (λ queue p. pg-fair queue p room beta) (pg-accepted slots values room lists beta z)
       (mostQueue-roomy (conserving-pg room beta) room (roomy-pg room beta) first [] (arrivals slots values) (omega arith))
 
-  pub lawful-plan : plainRefusal slots values room lists .number ≡ 0 → Lawful (byRule (keptRule (planKept room (arrivals slots values)))) [] slots values room
+  pub lawful-plan : plainRefusal slots values room lists .number ≡ 0 →
+      Lawful (byRule (keptRule (planKept room (arrivals slots values)))) [] slots values room
   lawful-plan z =
       let kept = planKept room (arrivals slots values) in
       by-rule (keptRule kept) (λ queue p. kept-fair queue p kept) (plain-accepted slots values room lists z) (mostQueue-plan room (arrivals slots values))

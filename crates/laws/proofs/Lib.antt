@@ -1,5 +1,6 @@
 -- What follows from the definitions of model, said once for every policy.
 pub mod FirstFault
+pub mod Cases
 pub mod Times
 pub mod Fifo
 pub mod Conserving
@@ -16,3 +17,5 @@ pub mod Obeys
 pub mod Room
 pub mod Accepted
 pub mod Lawful
+pub mod LawfulMF
+pub mod Audited

@@ -1,10 +1,10 @@
 -- When an entry is made. A moment is a slot and the number of the last packet that has arrived. An entry made between two moments is right by faults 12
 -- and 13; by fault 15's count its packet, if it had arrived, is held at the first of the two moments, and at the second it is not.
-use Prim.Native.Nat.{ℕ, zero, suc, _+_, _-_, _≤_, _<_}
+use Prim.Native.Nat.{ℕ, suc, _-_, _≤_, _<_}
 use native.Mathlib.Omega.{arith}
-use mathlib.Core.Path.{_≡_, refl, sym, _∙_}
-use mathlib.Core.Bool.{Bool, true, false, cond, not, _&&_, _||_}
-use mathlib.Core.List.{List, [], _∷_, _++_}
+use mathlib.Core.Path.{_≡_, refl, sym}
+use mathlib.Core.Bool.{Bool, true, false, _&&_, _||_}
+use mathlib.Core.List.{List}
 use lib.ListN.{length, getD}
 use lib.Dec.{leb, ltb, eqb}
 use borrow.Author.Tests.{leb-true, leb-false, ltb-true, ltb-false, le-leb, lt-leb, lt-ltb, le-ltb, eq-eqb}
@@ -13,13 +13,11 @@ use Rattle.model.specs.declared.Fate.the-variants.{Sent, Rejected, PushedOut, P
 use Rattle.model.specs.declared.LossKind.{LossKind}
 use Rattle.model.specs.declared.LossKind.the-variants as kinds
 use Rattle.model.specs.declared.Packet.{Packet}
-use Rattle.model.specs.declared.PacketNumber.{PacketNumber}
 use Rattle.model.specs.declared.Slot.{Slot}
 use Rattle.model.specs.Limits.{within}
-use Rattle.model.specs.Packets.{Arrival, nobody, slotOf}
-use Rattle.model.specs.Record.{fateNumber, lossFate, Entry, sentAt, rejectedAt, lostTo, flushedAt, Row}
+use Rattle.model.specs.Packets.{Arrival, slotOf}
+use Rattle.model.specs.Record.{fateNumber, Entry, sentAt, rejectedAt, lostTo, Row}
 use Rattle.model.specs.Rules.{hasFate, byWrong, whenWrong, isHeldAt}
-use Rattle.laws.proofs.All.{All, all-append, all-weaken}
 
 -- held at a moment, by fate: sent or flushed with when not before the slot, or lost with by after the last that has arrived
 abbrev heldAs : Fate → Bool → Bool → Bool

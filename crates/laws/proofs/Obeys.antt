@@ -1,21 +1,20 @@
 -- A record obeys the rules if its entries are right, its sendings are in order and the most held is within the room.
-use Prim.Native.Nat.{ℕ, zero, suc, _-_, _≤_, _<_, max}
+use Prim.Native.Nat.{ℕ, suc, _-_, _≤_}
 use native.Mathlib.Omega.{arith}
-use mathlib.Core.Path.{_≡_, refl, sym, _∙_}
-use mathlib.Core.Bool.{Bool, true, false, not, _&&_}
-use mathlib.Core.List.{List, [], _∷_, _++_}
-use lib.ListN.{length, getD}
-use lib.Dec.{ltb}
+use mathlib.Core.Path.{_≡_}
+use mathlib.Core.Bool.{false}
+use mathlib.Core.List.{List, [], _∷_}
+use lib.ListN.{length}
 use borrow.Author.Tests.{le-ltb}
-use Rattle.model.specs.declared.Slot.{Slot}
 use Rattle.model.specs.Packets.{Arrival}
 use Rattle.model.specs.Record.{fateNumber, Entry, Row}
-use Rattle.model.specs.Rules.{Buffer, Faultless, ObeysFrom, hasFate, fateOutside, byWrong, whenWrong, notLater, overRoom, heldAfter}
+use Rattle.model.specs.Rules.{Faultless, ObeysFrom, hasFate, fateOutside, byWrong, whenWrong, notLater, overRoom, heldAfter}
 use Rattle.model.specs.Totals.{mostHeldFrom}
-use Rattle.laws.proofs.Entered.{eqb-cases, entryOf, EnteredOnce, rowsBy}
+use Rattle.laws.proofs.Cases.{eqb-cases}
+use Rattle.laws.proofs.Entered.{entryOf, EnteredOnce, rowsBy}
 use Rattle.laws.proofs.WellFormed.{fateNumber-within}
 use Rattle.laws.proofs.All.{All, all-entryOf, entryOf-number}
-use Rattle.laws.proofs.Moments.{Since, Next, rowFor}
+use Rattle.laws.proofs.Moments.{Since, Next}
 use Rattle.laws.proofs.Standing.{Comes}
 use Rattle.laws.proofs.Held.{Older, nextRow, next-tells}
 use Rattle.laws.proofs.Sends.{SendsFrom, number-sent, sends-notAfterLast}

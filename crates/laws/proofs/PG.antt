@@ -1,18 +1,16 @@
 -- PG's 'then as plain greedy': where a packet was preempted there is room, so plain greedy, on the queue that the preemption left, holds the arrival, and
 -- that is PG's queue. Where none was, PG is plain greedy on the queue as it was.
-use Prim.Native.Nat.{ℕ, zero, suc, _≤_, _<_}
+use Prim.Native.Nat.{ℕ, _≤_, _<_}
 use native.Mathlib.Omega.{arith}
 use mathlib.Core.Path.{_≡_, refl}
-use mathlib.Core.Bool.{Bool, true, false, cond}
 use mathlib.Core.List.{List, [], _∷_, _++_}
 use lib.ListN.{length, getD}
-use lib.Dec.{ltb}
 use borrow.Author.Tests.{lt-ltb, le-ltb}
 use Rattle.model.specs.declared.Beta.{Beta}
 use Rattle.model.specs.declared.Packet.{Packet}
 use Rattle.model.specs.declared.LossKind.the-variants.{Preempted}
 use Rattle.model.specs.Packets.{nobody, valuesOf}
-use Rattle.model.specs.Course.{Decided, held, losing}
+use Rattle.model.specs.Course.{held, losing}
 use Rattle.model.specs.Policies.Greedy.{without, greedyRule}
 use Rattle.model.specs.Policies.PG.{preemptedAt, pgRule}
 use Rattle.laws.proofs.Times.{length-without}

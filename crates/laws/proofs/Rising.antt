@@ -2,9 +2,9 @@
 -- the next number, so whatever else leaves, the numbers go on rising.
 use Prim.Native.Nat.{ℕ, zero, suc, _≤_, _<_}
 use native.Mathlib.Omega.{arith}
-use mathlib.Core.Path.{_≡_, refl}
+use mathlib.Core.Path.{_≡_}
 use mathlib.Core.List.{List, [], _∷_, _++_}
-use lib.ListN.{length, getD, take, drop}
+use lib.ListN.{length, getD, take}
 use Rattle.model.specs.declared.Packet.{Packet}
 use Rattle.model.specs.declared.Slot.{Slot}
 use Rattle.model.specs.Packets.{nobody}
@@ -64,3 +64,9 @@ rising-parted low last (stays {p = p} parted) h = (h .0, rising-parted (p .numbe
 pub rising-sent : (low last : ℕ) (now : Slot) (queue : List Packet) → Rising low last queue → Rising low last (sendOldest now queue .next)
 rising-sent low last now [] h = h
 rising-sent low last now (p ∷ queue) h = rising-wider (p .number .0) low last last queue (omega arith) (omega arith) (h .1)
+
+-- the oldest of a queue
+pub rising-take : (low last n : ℕ) (queue : List Packet) → Rising low last queue → Rising low last (take n queue)
+rising-take low last zero queue h = rising-bounds low last queue h
+rising-take low last (suc n) [] h = h
+rising-take low last (suc n) (p ∷ queue) h = (h .0, rising-take (p .number .0) last n queue (h .1))

@@ -1,27 +1,25 @@
 -- No policy holds more than room just after an arrival. Plain greedy takes a packet in only where there is room or another is lost, PG and MF likewise, and
 -- the plan keeps a packet only if all that it has kept fits.
-use Prim.Native.Nat.{ℕ, zero, suc, _+_, _-_, _≤_, _<_, max}
+use Prim.Native.Nat.{ℕ, zero, suc, _+_, _-_, _≤_, _<_}
 use native.Mathlib.Omega.{arith}
 use mathlib.Core.Path.{_≡_, refl}
-use mathlib.Core.Bool.{Bool, true, false, cond, _&&_, and-eq-true-iff}
+use mathlib.Core.Bool.{true, and-eq-true-iff}
 use mathlib.Core.List.{List, [], _∷_, _++_}
-use lib.ListN.{length, getD, replicate, length-append, getD-replicate, List·getD-eq-default, length-replicate}
-use lib.Dec.{leb, ltb, eqb}
-use borrow.Author.Tests.{ltb-true, ltb-false, leb-true, le-leb, eqb-true}
+use lib.ListN.{length, getD, replicate, length-append}
+use lib.Dec.{leb}
+use borrow.Author.Tests.{leb-true, le-leb}
 use Rattle.model.specs.declared.Beta.{Beta}
-use Rattle.model.specs.declared.LossKind.{LossKind}
-use Rattle.model.specs.declared.LossKind.the-variants.{PushedOut, Preempted}
 use Rattle.model.specs.declared.Packet.{Packet}
 use Rattle.model.specs.declared.Slot.{Slot}
-use Rattle.model.specs.Packets.{Arrival, nobody, valuesOf, slotsUntil, placeOf}
-use Rattle.model.specs.Course.{Policy, Decided, held, rejected, losing, byRule, slotEnds, course, first}
-use Rattle.model.specs.Policies.Greedy.{without, loserAt, overflow, greedyRule}
+use Rattle.model.specs.Packets.{Arrival, valuesOf, slotsUntil, placeOf}
+use Rattle.model.specs.Course.{Policy, Decided, held, byRule, slotEnds, first}
+use Rattle.model.specs.Policies.Greedy.{without, loserAt, greedyRule}
 use Rattle.model.specs.Policies.PG.{preemptedAt, pgRule}
 use Rattle.model.specs.Policies.MF.{Marking, mfPolicy}
 use Rattle.model.specs.Policies.Plan.{keptOf, keep, fitsFrom, fits, keepInTurn, byFallingValue, planKept, keptRule}
 use Rattle.laws.proofs.Times.{length-without}
 use Rattle.laws.proofs.Conserving.{Conserving, slotEnds-shorter, conserving-kept}
-use Rattle.laws.proofs.Entered.{eqb-cases}
+use Rattle.laws.proofs.Cases.{eqb-cases, cond-cases, below-cases}
 use Rattle.laws.proofs.Standing.{turn}
 use Rattle.laws.proofs.Held.{mostQueue}
 
@@ -39,41 +37,22 @@ mostQueue-roomy {P} C room R now s (a ∷ trace) h =
     omega (arith, mostQueue-roomy C room R (a .slot) (turn P now s a .next) trace here)
 
 module _ (room : ℕ) (queue : List Packet) (p : Packet) (h : length queue ≤ room) where
-  -- at a place that is found among the held packets the packet is lost, else another decision is taken
-  loses-roomy : (place : ℕ) (kind : LossKind) (other : Decided) → length (other .queue) ≤ room →
-      length
-      (cond (ltb place (length queue))
-      (record {
-        decision = losing (record { packet = getD queue place nobody; kind = kind });
-        queue = without place queue ++ p ∷ [];
-      })
-      other .queue)
-      ≤ room
-  loses-roomy place kind other k = go (ltb place (length queue)) refl
-    where
-      go : (t : Bool) → ltb place (length queue) ≡ t →
-          length
-          (cond t
-          (record {
-            decision = losing (record { packet = getD queue place nobody; kind = kind });
-            queue = without place queue ++ p ∷ [];
-          })
-          other .queue)
-          ≤ room
-      go true e = omega (arith, length-append (without place queue) (p ∷ []), length-without place queue (ltb-true place (length queue) e))
-      go false e = k
+  -- a packet lost makes room for the arrival
+  loses-roomy : (place : ℕ) → place < length queue → length (without place queue ++ p ∷ []) ≤ room
+  loses-roomy place b = omega (arith, length-append (without place queue) (p ∷ []), length-without place queue b)
 
   greedy-roomy : length (greedyRule room queue p .queue) ≤ room
   unfolding greedyRule
-  greedy-roomy = go (ltb (length queue) room) refl
-    where
-      go : (t : Bool) → ltb (length queue) room ≡ t → length (cond t (record { decision = held; queue = queue ++ p ∷ [] }) (overflow queue p) .queue) ≤ room
-      go true e = omega (arith, length-append queue (p ∷ []), ltb-true (length queue) room e)
-      go false e = loses-roomy (loserAt (valuesOf (queue ++ p ∷ []))) PushedOut (record { decision = rejected; queue = queue }) h
+  greedy-roomy =
+      let loser = loserAt (valuesOf (queue ++ p ∷ [])) in
+      below-cases (λ (d : Decided). length (d .queue) ≤ room) (length queue) room _ _ (λ b. omega (arith, length-append queue (p ∷ [])))
+      λ full. below-cases (λ (d : Decided). length (d .queue) ≤ room) loser (length queue) _ _ (loses-roomy loser) (λ b. h)
 
   pg-roomy : (beta : Beta) → length (pgRule room beta queue p .queue) ≤ room
   unfolding pgRule
-  pg-roomy beta = loses-roomy (preemptedAt beta (p .value) (valuesOf queue)) Preempted (greedyRule room queue p) greedy-roomy
+  pg-roomy beta =
+      let place = preemptedAt beta (p .value) (valuesOf queue) in
+      below-cases (λ (d : Decided). length (d .queue) ≤ room) place (length queue) _ _ (loses-roomy place) (λ b. greedy-roomy)
 
 pub roomy-greedy : (room : ℕ) → Roomy room (byRule (greedyRule room))
 roomy-greedy room a queue h = greedy-roomy room queue (a .packet) h
@@ -105,7 +84,7 @@ kept-room room kept now queue counted (a ∷ trace) h fit =
     in
     omega (arith, leb-true after room (both .0), kept-room room kept (a .slot) (turn P now queue a .next) after trace here (both .1))
 
-zeros : (n place : ℕ) → _≡_ {A = ℕ} (getD (replicate n 0) place 0) 0
+pub zeros : (n place : ℕ) → _≡_ {A = ℕ} (getD (replicate n 0) place 0) 0
 zeros zero place = refl
 zeros (suc n) zero = refl
 zeros (suc n) (suc place) = zeros n place
@@ -123,11 +102,10 @@ keepInTurn-fits : (room : ℕ) (trace : List Arrival) (kept : List ℕ) (turn : 
     fits room trace (keepInTurn room trace kept turn) ≡ true
 unfolding keepInTurn
 keepInTurn-fits room trace kept [] h = h
-keepInTurn-fits room trace kept (a ∷ turn) h = keepInTurn-fits room trace _ turn (go (fits room trace (keep (a .packet .number) kept)) refl)
-  where
-    go : (t : Bool) → fits room trace (keep (a .packet .number) kept) ≡ t → fits room trace (cond t (keep (a .packet .number) kept) kept) ≡ true
-    go true e = e
-    go false e = h
+keepInTurn-fits room trace kept (a ∷ turn) h =
+    let more = keep (a .packet .number) kept in
+    keepInTurn-fits room trace _ turn
+    (cond-cases (λ kept. fits room trace kept ≡ true) (fits room trace more) more kept (λ e. e) (λ e. h))
 
 pub planKept-fits : (room : ℕ) (trace : List Arrival) → fits room trace (planKept room trace) ≡ true
 planKept-fits room trace = keepInTurn-fits room trace (replicate (length trace) 0) (byFallingValue trace) (none-fits room (length trace) first 0 trace refl)

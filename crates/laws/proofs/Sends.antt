@@ -2,26 +2,25 @@
 use Prim.Native.Nat.{ℕ, zero, suc, _+_, _≤_, _<_}
 use native.Mathlib.Omega.{arith}
 use mathlib.Core.Path.{_≡_, refl, sym, _∙_}
-use mathlib.Core.Bool.{Bool, true, false, cond, _&&_}
+use mathlib.Core.Bool.{false}
 use mathlib.Core.List.{List, [], _∷_, _++_, append-nil, append-assoc}
 use lib.ListN.{length}
-use lib.Dec.{leb, eqb}
 use borrow.Author.Tests.{lt-leb}
 use Rattle.model.specs.declared.Fate.{Fate}
 use Rattle.model.specs.declared.Fate.the-variants.{Sent, Rejected, PushedOut, Preempted, Flushed}
 use Rattle.model.specs.declared.LossKind.{LossKind}
 use Rattle.model.specs.declared.LossKind.the-variants as kinds
-use Rattle.model.specs.declared.Loss.{Loss}
 use Rattle.model.specs.declared.Packet.{Packet}
 use Rattle.model.specs.declared.Slot.{Slot}
-use Rattle.model.specs.Packets.{Arrival, slotsUntil, following}
+use Rattle.model.specs.Packets.{Arrival, slotsUntil}
 use Rattle.model.specs.Record.{fateNumber, lossFate, Entry, Row}
 use Rattle.model.specs.Rules.{hasFate, notAfterLast}
-use Rattle.model.specs.Course.{Step, Policy, Decision, held, rejected, losing, entriesOf, sendOldest, slotEnds, course}
+use Rattle.model.specs.Course.{Policy, Decision, held, rejected, losing, entriesOf, sendOldest, slotEnds, course}
 use Rattle.laws.proofs.Times.{times, timesEntered}
 use Rattle.laws.proofs.Fifo.{Parted, none, goes, stays, Fifo}
 use Rattle.laws.proofs.Conserving.{slotEnds-induction}
-use Rattle.laws.proofs.Entered.{eqb-cases, entryOf, EnteredOnce}
+use Rattle.laws.proofs.Cases.{eqb-cases}
+use Rattle.laws.proofs.Entered.{entryOf, EnteredOnce}
 use Rattle.laws.proofs.Rising.{Rising, rising-fair, rising-parted}
 use Rattle.laws.proofs.Standing.{Comes}
 use Rattle.laws.proofs.Held.{Older}
@@ -53,7 +52,8 @@ loss-not-sent : (kind : LossKind) (A B : Type 0) → B → ifSent (lossFate kind
 loss-not-sent kinds.PushedOut A B h = h
 loss-not-sent kinds.Preempted A B h = h
 
-arrive-sends : (low after : ℕ) (a : Arrival) (decision : Decision) (tail : List Entry) → SendsFrom low after tail → SendsFrom low after (entriesOf a decision ++ tail)
+arrive-sends : (low after : ℕ) (a : Arrival) (decision : Decision) (tail : List Entry) → SendsFrom low after tail →
+    SendsFrom low after (entriesOf a decision ++ tail)
 arrive-sends low after a held tail h = h
 arrive-sends low after a rejected tail h = h
 arrive-sends low after a (losing l) tail h = loss-not-sent (l .kind) _ _ h
@@ -81,11 +81,13 @@ module _ {S : Type 0} {P : Policy S} (F : Fifo P) (last : ℕ) where
       (parted-sends low after _ (F .parted now s)
       (send-sends low after last now (F .leaves now s) tail (rising-parted low last (F .parted now s) h) b (rw (F .finish-holds now s) at on)))
 
-  slotEnds-sends : (k : ℕ) (now : Slot) (s : S) (till : ℕ) (tail : List Entry) → now .0 + k ≤ till → GoesOn till last (P .held (slotEnds P k now s .next)) tail →
+  slotEnds-sends : (k : ℕ) (now : Slot) (s : S) (till : ℕ) (tail : List Entry) → now .0 + k ≤ till →
+      GoesOn till last (P .held (slotEnds P k now s .next)) tail →
       GoesOn (now .0) last (P .held s) (slotEnds P k now s .entries ++ tail)
   slotEnds-sends =
       slotEnds-induction P
-      (λ k now s step. (till : ℕ) (tail : List Entry) → now .0 + k ≤ till → GoesOn till last (P .held (step .next)) tail → GoesOn (now .0) last (P .held s) (step .entries ++ tail))
+      (λ k now s step. (till : ℕ) (tail : List Entry) → now .0 + k ≤ till → GoesOn till last (P .held (step .next)) tail →
+      GoesOn (now .0) last (P .held s) (step .entries ++ tail))
       (λ k now s quiet till tail h on low after rising b. on low after rising (omega arith))
       (λ k now s step rest till tail h on.
       rw append-assoc (finish-sends now s (step .entries ++ tail) (rest till tail (omega arith) on)))
@@ -125,7 +127,8 @@ sends-after n low after (e ∷ entries) h b sent =
     (λ its. sends-after n low after entries its there (rw t at sent)))
 
 -- of two that are sent the older is sent first
-pub sends-in-order : (i j low after : ℕ) (entries : List Entry) → SendsFrom low after entries → i < j → 0 < timesEntered i entries → 0 < timesEntered j entries →
+pub sends-in-order : (i j low after : ℕ) (entries : List Entry) → SendsFrom low after entries → i < j →
+    0 < timesEntered i entries → 0 < timesEntered j entries →
     entryOf i entries .fate ≡ Sent → entryOf j entries .fate ≡ Sent → entryOf i entries .when .0 < entryOf j entries .when .0
 unfolding times entryOf
 sends-in-order i j low after [] h b bi bj si sj = absurd (omega arith)

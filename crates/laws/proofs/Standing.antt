@@ -1,17 +1,17 @@
 -- How a course of a policy goes from one moment to the next: its numbers go on rising, and each entry that it makes is made between the two moments.
-use Prim.Native.Nat.{ℕ, zero, suc, _+_, _-_, _≤_, _<_, min}
+use Prim.Native.Nat.{ℕ, suc, _+_, _≤_}
 use native.Mathlib.Omega.{arith}
-use mathlib.Core.Path.{_≡_, refl, sym, _∙_}
+use mathlib.Core.Path.{_≡_}
 use mathlib.Core.List.{List, [], _∷_, _++_, append-assoc}
 use lib.ListN.{length, getD}
 use Rattle.model.specs.declared.Packet.{Packet}
 use Rattle.model.specs.declared.Slot.{Slot}
-use Rattle.model.specs.Packets.{Arrival, nobody, slotsUntil, following}
+use Rattle.model.specs.Packets.{Arrival, nobody, slotsUntil}
 use Rattle.model.specs.Record.{Entry}
 use Rattle.model.specs.Course.{Step, Policy, Decided, entriesOf, sendOldest, andThen, slotEnds, course}
 use Rattle.laws.proofs.Fifo.{Fair, holds, rejects, loses, Fifo}
 use Rattle.laws.proofs.Conserving.{slotEnds-induction}
-use Rattle.laws.proofs.Entered.{eqb-cases}
+use Rattle.laws.proofs.Cases.{eqb-cases}
 use Rattle.laws.proofs.Rising.{Rising, rising-bounds, rising-fair, rising-parted, rising-sent, rising-at}
 use Rattle.laws.proofs.All.{All, all-append, all-weaken}
 use Rattle.laws.proofs.Moments.{Since, Between, since-earlier, gone-later, FlushedBy, Arrived, sent-between, flushed-between, Next, rejected-between, lost-between}
@@ -39,7 +39,8 @@ module _ (slots : List ℕ) where
         counted = N .counted;
       }
 
-  between-wider : (now last now′ last′ from till : ℕ) → from ≤ now → now′ ≤ till → (e : Entry) → Between slots now last now′ last′ e → Between slots from last till last′ e
+  between-wider : (now last now′ last′ from till : ℕ) → from ≤ now → now′ ≤ till → (e : Entry) → Between slots now last now′ last′ e →
+      Between slots from last till last′ e
   between-wider now last now′ last′ from till a b e h =
       record { since = since-earlier slots from last now last a (omega arith) e (h .since); gone = gone-later now′ last′ till last′ b (omega arith) e (h .gone) }
 

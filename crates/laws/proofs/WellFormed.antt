@@ -1,10 +1,10 @@
 -- Every run's record is well formed: a list is as long as the trace, each packet has one of the five fates, nothing that stood in the lists before is
 -- left, and the five tallies add up to what arrived. All of it follows from each packet being entered once.
-use Prim.Native.Nat.{ℕ, zero, suc, _+_, _≤_, _<_}
+use Prim.Native.Nat.{ℕ, suc, _+_, _≤_, _<_}
 use native.Mathlib.Omega.{arith}
-use mathlib.Core.Path.{_≡_, refl, sym, _∙_, ap}
-use mathlib.Core.Bool.{Bool, true, false, cond}
-use mathlib.Core.List.{List, [], _∷_, map}
+use mathlib.Core.Path.{_≡_, refl, _∙_}
+use mathlib.Core.Bool.{true, cond}
+use mathlib.Core.List.{List, [], _∷_}
 use lib.ListN.{length, getD}
 use Rattle.model.specs.declared.Beta.{Beta}
 use Rattle.model.specs.declared.Fate.{Fate}
@@ -23,11 +23,13 @@ use Rattle.model.specs.Policies.MF.{Marking, unmarked, mfRun}
 use Rattle.model.specs.Policies.Plan.{planKept, planRun}
 use Rattle.laws.proofs.Times.{times, timesArriving}
 use Rattle.laws.proofs.Conserving.{Conserving, course-conserves, conserving-greedy, conserving-pg, conserving-kept, conserving-mf}
-use Rattle.laws.proofs.Entered.{eqb-cases, EnteredOnce, Sized, Says, blank-sized, entered-sized, entered-says, entered-all, entryOf, rowOf, rowsBy, rows-said}
+use Rattle.laws.proofs.Cases.{eqb-cases}
+use Rattle.laws.proofs.Entered.{EnteredOnce, Sized, blank-sized, entered-sized, entered-says, entered-all, entryOf, rowOf, rowsBy, recorded, rows-said}
 
 -- the five tallies of a record add up to a sixth, by whatever is counted
 pub record AddUp (of : Tally → ℕ) (rows : List Row) : Type 0 where
-  pub all : of (totalsOf rows .sent) + of (totalsOf rows .rejected) + of (totalsOf rows .«pushed_out») + of (totalsOf rows .preempted) + of (totalsOf rows .flushed)
+  pub all : of (totalsOf rows .sent) + of (totalsOf rows .rejected) + of (totalsOf rows .«pushed_out»)
+      + of (totalsOf rows .preempted) + of (totalsOf rows .flushed)
       ≡ of (totalsOf rows .arrived)
 
 -- the sum of the values of a trace
@@ -40,10 +42,10 @@ pub record WellFormed (slots values : List ℕ) (entries : List Entry) : Type 0 
   pub fate : (k : ℕ) → k < length slots → (f : Fate) × (getD (recordOf (length slots) entries .fates) k 0 ≡ fateNumber f)
   pub fate-within : (k : ℕ) → k < length slots → within 1 5 (getD (recordOf (length slots) entries .fates) k 0) ≡ true
   pub all-written : (before : Lists) → Sized (length slots) before → entered entries before ≡ recordOf (length slots) entries
-  pub counts : AddUp (λ t. t .count) (rows (arrivals slots values) (recordOf (length slots) entries))
-  pub values-counted : AddUp (λ t. t .value) (rows (arrivals slots values) (recordOf (length slots) entries))
-  pub arrived-count : totalsOf (rows (arrivals slots values) (recordOf (length slots) entries)) .arrived .count ≡ length slots
-  pub arrived-value : totalsOf (rows (arrivals slots values) (recordOf (length slots) entries)) .arrived .value ≡ sum values
+  pub counts : AddUp (λ t. t .count) (recorded slots values entries)
+  pub values-counted : AddUp (λ t. t .value) (recorded slots values entries)
+  pub arrived-count : totalsOf (recorded slots values entries) .arrived .count ≡ length slots
+  pub arrived-value : totalsOf (recorded slots values entries) .arrived .value ≡ sum values
 
 pub fateNumber-within : (f : Fate) → within 1 5 (fateNumber f) ≡ true
 unfolding within
@@ -78,20 +80,23 @@ module _ (entries : List Entry) where
       let e = entryOf (a .packet .number .0) entries in
       record { all = omega (arith, one-fate (rowOf a e) (e .fate) (a .packet .value) refl, values-add-up trace .all) }
 
-  all-count : (n : ℕ) (slots values : List ℕ) → length values ≡ length slots → countOf (λ r. true) (rowsBy entries (arrivalsFrom n slots values)) ≡ length slots
+  all-count : (n : ℕ) (slots values : List ℕ) → length values ≡ length slots →
+      countOf (λ r. true) (rowsBy entries (arrivalsFrom n slots values)) ≡ length slots
   unfolding countOf arrivalsFrom
   all-count n [] values l = refl
   all-count n (s ∷ slots) [] l = absurd (omega arith)
   all-count n (s ∷ slots) (v ∷ values) l = omega (arith, all-count (suc n) slots values (omega arith))
 
-  all-value : (n : ℕ) (slots values : List ℕ) → length values ≡ length slots → valueOf (λ r. true) (rowsBy entries (arrivalsFrom n slots values)) ≡ sum values
+  all-value : (n : ℕ) (slots values : List ℕ) → length values ≡ length slots →
+      valueOf (λ r. true) (rowsBy entries (arrivalsFrom n slots values)) ≡ sum values
   unfolding valueOf arrivalsFrom sum
   all-value n [] [] l = refl
   all-value n [] (v ∷ values) l = absurd (omega arith)
   all-value n (s ∷ slots) [] l = absurd (omega arith)
   all-value n (s ∷ slots) (v ∷ values) l = omega (arith, all-value (suc n) slots values (omega arith))
 
-pub wellFormed : (slots values : List ℕ) (entries : List Entry) → length values ≡ length slots → EnteredOnce (length slots) entries → WellFormed slots values entries
+pub wellFormed : (slots values : List ℕ) (entries : List Entry) → length values ≡ length slots → EnteredOnce (length slots) entries →
+    WellFormed slots values entries
 wellFormed slots values entries l O =
     let packets = length slots in
     let said = rows-said slots values entries l O in
@@ -121,7 +126,9 @@ unfolding arrivalsFrom times
 arrivals-once m n [] values l h k = absurd (omega arith)
 arrivals-once m n (s ∷ slots) [] l h k = absurd (omega arith)
 arrivals-once m n (s ∷ slots) (v ∷ values) l h k =
-    eqb-cases n m _ (λ t q. rw t (omega (arith, arrivals-none m (suc n) slots values (omega arith)))) λ t q. rw t (omega (arith, arrivals-once m (suc n) slots values (omega arith) (omega arith) (omega arith)))
+    eqb-cases n m _
+    (λ t q. rw t (omega (arith, arrivals-none m (suc n) slots values (omega arith))))
+    λ t q. rw t (omega (arith, arrivals-once m (suc n) slots values (omega arith) (omega arith) (omega arith)))
 
 -- a course that begins with nothing held enters each packet of its trace once
 pub course-once : {S : Type 0} {P : Policy S} → Conserving P → (slots values : List ℕ) → length values ≡ length slots →
