@@ -1,0 +1,4 @@
+-- Why the statements of specs/ are true.
+pub mod Lines
+pub mod Accepted
+pub mod FromLines
