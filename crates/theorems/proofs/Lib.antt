@@ -2,3 +2,4 @@
 pub mod Lines
 pub mod Accepted
 pub mod FromLines
+pub mod Sending
