@@ -3,3 +3,5 @@ pub mod Lines
 pub mod Accepted
 pub mod FromLines
 pub mod Sending
+pub mod Queue
+pub mod Lowest
