@@ -5,3 +5,5 @@ pub mod FromLines
 pub mod Sending
 pub mod Queue
 pub mod Lowest
+pub mod SentBy
+pub mod Twice
