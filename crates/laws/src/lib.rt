@@ -1,0 +1,1 @@
+// What follows from the definitions of model, for every policy alike: the theorems stand in proofs/.
