@@ -3,7 +3,9 @@ pub mod Lines
 pub mod Accepted
 pub mod FromLines
 pub mod Sending
+pub mod Each
 pub mod Queue
 pub mod Lowest
 pub mod SentBy
 pub mod Twice
+pub mod Bridge

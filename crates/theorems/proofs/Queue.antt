@@ -8,6 +8,7 @@ use lib.ListN.{length}
 use lib.Dec.{leb}
 use borrow.Author.Tests.{le-leb}
 use Rattle.model.specs.declared.Packet.{Packet}
+use Rattle.theorems.proofs.Each.{Each}
 
 -- 1 for a packet of value at least w
 abbrev pub hi : ℕ → Packet → ℕ
@@ -25,8 +26,7 @@ hiRun w (p ∷ queue) = cond (leb w (p .value)) (suc (hiRun w queue)) 0
 
 -- no packet has a value below v
 abbrev pub AtLeast : ℕ → List Packet → Type 0
-AtLeast v [] = Unit {0}
-AtLeast v (p ∷ queue) = (v ≤ p .value) × AtLeast v queue
+AtLeast v queue = Each (λ p. v ≤ p .value) queue
 
 module _ (w : ℕ) where
   pub hi-append : (xs ys : List Packet) → hiIn w (xs ++ ys) ≡ hiIn w xs + hiIn w ys
