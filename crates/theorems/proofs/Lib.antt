@@ -9,3 +9,4 @@ pub mod Lowest
 pub mod SentBy
 pub mod Twice
 pub mod Bridge
+pub mod Demand3
