@@ -9,4 +9,6 @@ pub mod Lowest
 pub mod SentBy
 pub mod Twice
 pub mod Bridge
+pub mod Fits
+pub mod Most
 pub mod Demand3
