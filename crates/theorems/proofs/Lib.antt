@@ -11,4 +11,7 @@ pub mod Twice
 pub mod Bridge
 pub mod Fits
 pub mod Most
+pub mod FallingValue
+pub mod Kept
+pub mod PlanSends
 pub mod Demand3
