@@ -14,6 +14,7 @@ use Rattle.model.specs.Packets.{Arrival, arrivals, arrivalsFrom, slotsUntil}
 use Rattle.model.specs.Course.{Decided, held, rejected, first}
 use Rattle.model.specs.Policies.Plan.{byFallingValue, keepInTurn, planKept, keptRule}
 use Rattle.laws.proofs.Entered.{eqb-cases}
+use Rattle.theorems.proofs.Accepted.{length-arrivals}
 use Rattle.theorems.proofs.Each.{Each, each-map, each-both}
 use Rattle.theorems.proofs.Queue.{hi, hiIn, hi-append}
 use Rattle.theorems.proofs.SentBy.{sentBy}
@@ -23,7 +24,7 @@ use Rattle.theorems.proofs.FallingValue.{picked, atLeast, below, each-f
 use Rattle.theorems.proofs.Kept.{Keeping, Within, Settled, Ended, in-turn, in-turn-only, in-turn-append}
 
 -- a packet stands at its number's place, and its value too
-abbrev Placed : ℕ → List ℕ → Arrival → Type 0
+abbrev pub Placed : ℕ → List ℕ → Arrival → Type 0
 Placed n all a = (placeIn a < n) × (a .packet .value ≡ getD all (placeIn a) 0)
 
 placed : (n k : ℕ) (all slots values : List ℕ) → ((i j : ℕ) → j ≡ k + i → getD values i 0 ≡ getD all j 0) → k + length slots ≤ n
@@ -35,6 +36,13 @@ placed n k all (s ∷ slots) (v ∷ values) same h = (
   (omega arith, same 0 (suc k - 1) (omega arith)),
   placed n (suc k) all slots values (λ i j e. same (suc i) j (omega arith)) (omega arith),
 )
+
+pub all-placed : (slots values : List ℕ) → length values ≡ length slots
+    → Each (Placed (length (arrivals slots values)) values) (arrivals slots values)
+all-placed slots values l =
+    placed (length (arrivals slots values)) 0 values slots values
+    (λ i j e. ap (λ (n : ℕ). getD values n 0) (omega arith))
+    (omega (arith, length-arrivals 1 slots values l))
 
 -- nothing fits
 fits-none : (room : ℕ) (set : ℕ → ℕ) (now : Slot) (n : ℕ) (trace : List Arrival) → ((i : ℕ) → set i ≡ 0) → n ≤ room → Fits room set now n trace
