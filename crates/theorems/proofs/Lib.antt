@@ -15,3 +15,4 @@ pub mod FallingValue
 pub mod Kept
 pub mod PlanSends
 pub mod Demand3
+pub mod Answered
