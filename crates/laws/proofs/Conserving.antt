@@ -1,10 +1,10 @@
 -- No packet is made or unmade: whatever leaves the queue is entered, once. So in a whole course each packet that was held or that arrives is entered as
 -- often as it was there, since after the last arrival slots go on until nothing is held.
-use Prim.Native.Nat.{ℕ, zero, suc, _+_, _-_, _≤_, _<_, min}
+use Prim.Native.Nat.{ℕ, zero, suc, _+_, _-_, _≤_, min}
 use native.Mathlib.Omega.{arith}
 use mathlib.Core.Path.{_≡_, refl}
 use mathlib.Core.List.{List, [], _∷_, _++_}
-use lib.ListN.{length, getD, take, drop}
+use lib.ListN.{length, take, drop}
 use Rattle.model.specs.declared.Beta.{Beta}
 use Rattle.model.specs.declared.Packet.{Packet}
 use Rattle.model.specs.declared.Slot.{Slot}

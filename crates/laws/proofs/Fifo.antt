@@ -1,10 +1,10 @@
 -- The four policies are first in, first out: an arrival enters at the back or not at all, losses leave from anywhere, and at a slot's end, once the flushed
 -- are gone, the oldest is sent.
-use Prim.Native.Nat.{ℕ, zero, suc, _+_, _≤_, _<_}
-use mathlib.Core.Path.{_≡_, refl, subst, sym}
+use Prim.Native.Nat.{ℕ, _<_}
+use mathlib.Core.Path.{_≡_, refl}
 use mathlib.Core.Bool.{Bool, true, false, cond}
 use mathlib.Core.List.{List, [], _∷_, _++_}
-use lib.ListN.{length, getD, take, drop}
+use lib.ListN.{length, getD}
 use lib.Dec.{eqb, ltb}
 use borrow.Author.Tests.{ltb-true}
 use Rattle.model.specs.declared.Beta.{Beta}
@@ -18,7 +18,7 @@ use Rattle.model.specs.Record.{Entry, flushedAt}
 use Rattle.model.specs.Course.{Policy, Decided, held, rejected, losing, entriesOf, sendOldest, byRule}
 use Rattle.model.specs.Policies.Greedy.{without, loserAt, overflow, greedyRule}
 use Rattle.model.specs.Policies.PG.{preemptedAt, pgRule}
-use Rattle.model.specs.Policies.MF.{Marking, Marked, markOf, goesWith, flushed, unflushed, headMark, marksAfter, mfPolicy}
+use Rattle.model.specs.Policies.MF.{Marking, markOf, goesWith, flushed, unflushed, headMark, marksAfter, mfPolicy}
 use Rattle.model.specs.Policies.Plan.{keptOf, keptRule}
 
 -- the arrival is held, or rejected, or held at the cost of the packet at one place
@@ -52,12 +52,12 @@ pub record Fifo {S : Type 0} (P : Policy S) : Type 0 where
   pub finish-enters : (now : Slot) (s : S) → P .finish now s .entries ≡ flushes now s ++ sendOldest now (leaves now s) .entries
   pub finish-holds : (now : Slot) (s : S) → P .held (P .finish now s .next) ≡ sendOldest now (leaves now s) .next
 
-all-stay : (now : Slot) (queue : List Packet) → Parted now queue [] queue
+pub all-stay : (now : Slot) (queue : List Packet) → Parted now queue [] queue
 all-stay now [] = none
 all-stay now (p ∷ queue) = stays (all-stay now queue)
 
 -- a policy by a fair rule
-pub fifo-byRule : (rule : List Packet → Packet → Decided) → ((queue : List Packet) (p : Packet) → Fair queue p (rule queue p)) → Fifo (byRule rule)
+abbrev pub fifo-byRule : (rule : List Packet → Packet → Decided) → ((queue : List Packet) (p : Packet) → Fair queue p (rule queue p)) → Fifo (byRule rule)
 fifo-byRule rule fair =
     record {
       decides = rule;
@@ -114,7 +114,7 @@ module _ (queue : List Packet) (p : Packet) where
       go true = holds
       go false = rejects
 
-flush-parted : (now : Slot) (m : ℕ) (marks : List ℕ) (queue : List Packet) → Parted now queue (flushed now m marks queue) (unflushed m marks queue)
+pub flush-parted : (now : Slot) (m : ℕ) (marks : List ℕ) (queue : List Packet) → Parted now queue (flushed now m marks queue) (unflushed m marks queue)
 unfolding flushed unflushed
 flush-parted now m marks [] = none
 flush-parted now m marks (p ∷ queue) = go (goesWith m marks p) (flush-parted now m marks queue)
@@ -126,16 +126,16 @@ flush-parted now m marks (p ∷ queue) = go (goesWith m marks p) (flush-parted n
     go true h = goes h
     go false h = stays h
 
-pub fifo-greedy : (room : ℕ) → Fifo (byRule (greedyRule room))
+abbrev pub fifo-greedy : (room : ℕ) → Fifo (byRule (greedyRule room))
 fifo-greedy room = fifo-byRule (greedyRule room) (λ queue p. greedy-fair queue p room)
 
-pub fifo-pg : (room : ℕ) (beta : Beta) → Fifo (byRule (pgRule room beta))
+abbrev pub fifo-pg : (room : ℕ) (beta : Beta) → Fifo (byRule (pgRule room beta))
 fifo-pg room beta = fifo-byRule (pgRule room beta) (λ queue p. pg-fair queue p room beta)
 
-pub fifo-kept : (kept : List ℕ) → Fifo (byRule (keptRule kept))
+abbrev pub fifo-kept : (kept : List ℕ) → Fifo (byRule (keptRule kept))
 fifo-kept kept = fifo-byRule (keptRule kept) (λ queue p. kept-fair queue p kept)
 
-pub fifo-mf : (room : ℕ) (M : Marking) (slots : List ℕ) → Fifo (mfPolicy room M slots)
+abbrev pub fifo-mf : (room : ℕ) (M : Marking) (slots : List ℕ) → Fifo (mfPolicy room M slots)
 fifo-mf room M slots =
     record {
       decides = λ s p. greedyRule room (s .queue) p;

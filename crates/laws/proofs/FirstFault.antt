@@ -1,15 +1,14 @@
 -- A record obeys the rules exactly when the audit finds no first fault: at each packet the first fault is clear when all five tests fail, and a verdict
 -- whose number is 0 is one that every test before it has let through.
-use Prim.Native.Nat.{ℕ, zero, suc}
+use Prim.Native.Nat.{ℕ, suc}
 use native.Mathlib.Omega.{arith}
 use mathlib.Core.Path.{_≡_, refl}
 use mathlib.Core.Bool.{Bool, true, false, cond}
 use mathlib.Core.List.{List, [], _∷_}
-use lib.ListN.{length}
 use lib.Dec.{eqb}
 use borrow.Author.Tests.{eqb-true, eqb-false}
 use Rattle.model.specs.Record.{Row}
-use Rattle.model.specs.Rules.{Buffer, Faultless, ObeysFrom, Obeys, Verdict, clear, orElse, verdictIf, faultAt, firstFaultFrom, firstFault, fateOutside, byWrong, whenWrong, notLater, overRoom}
+use Rattle.model.specs.Rules.{Buffer, Faultless, ObeysFrom, Obeys, Verdict, clear, orElse, verdictIf, faultAt, firstFaultFrom, firstFault}
 
 -- the first of two verdicts is clear only if both are
 pub orElse-zero : (v w : Verdict) → orElse v w .number ≡ 0 → (v .number ≡ 0) × (w .number ≡ 0)

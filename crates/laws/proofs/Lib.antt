@@ -5,3 +5,15 @@ pub mod Fifo
 pub mod Conserving
 pub mod Entered
 pub mod WellFormed
+pub mod PG
+pub mod Rising
+pub mod All
+pub mod Moments
+pub mod Standing
+pub mod Held
+pub mod Sends
+pub mod Obeys
+pub mod Room
+pub mod Accepted
+pub mod Lawful
+pub mod LawfulMF

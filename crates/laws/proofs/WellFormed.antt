@@ -1,10 +1,10 @@
 -- Every run's record is well formed: a list is as long as the trace, each packet has one of the five fates, nothing that stood in the lists before is
 -- left, and the five tallies add up to what arrived. All of it follows from each packet being entered once.
-use Prim.Native.Nat.{ℕ, zero, suc, _+_, _≤_, _<_}
+use Prim.Native.Nat.{ℕ, suc, _+_, _≤_, _<_}
 use native.Mathlib.Omega.{arith}
-use mathlib.Core.Path.{_≡_, refl, sym, _∙_, ap}
-use mathlib.Core.Bool.{Bool, true, false, cond}
-use mathlib.Core.List.{List, [], _∷_, map}
+use mathlib.Core.Path.{_≡_, refl, _∙_}
+use mathlib.Core.Bool.{true, cond}
+use mathlib.Core.List.{List, [], _∷_}
 use lib.ListN.{length, getD}
 use Rattle.model.specs.declared.Beta.{Beta}
 use Rattle.model.specs.declared.Fate.{Fate}
@@ -23,7 +23,7 @@ use Rattle.model.specs.Policies.MF.{Marking, unmarked, mfRun}
 use Rattle.model.specs.Policies.Plan.{planKept, planRun}
 use Rattle.laws.proofs.Times.{times, timesArriving}
 use Rattle.laws.proofs.Conserving.{Conserving, course-conserves, conserving-greedy, conserving-pg, conserving-kept, conserving-mf}
-use Rattle.laws.proofs.Entered.{eqb-cases, EnteredOnce, Sized, Says, blank-sized, entered-sized, entered-says, entered-all, entryOf, rowOf, rowsBy, rows-said}
+use Rattle.laws.proofs.Entered.{eqb-cases, EnteredOnce, Sized, blank-sized, entered-sized, entered-says, entered-all, entryOf, rowOf, rowsBy, rows-said}
 
 -- the five tallies of a record add up to a sixth, by whatever is counted
 pub record AddUp (of : Tally → ℕ) (rows : List Row) : Type 0 where
@@ -45,7 +45,7 @@ pub record WellFormed (slots values : List ℕ) (entries : List Entry) : Type 0 
   pub arrived-count : totalsOf (rows (arrivals slots values) (recordOf (length slots) entries)) .arrived .count ≡ length slots
   pub arrived-value : totalsOf (rows (arrivals slots values) (recordOf (length slots) entries)) .arrived .value ≡ sum values
 
-fateNumber-within : (f : Fate) → within 1 5 (fateNumber f) ≡ true
+pub fateNumber-within : (f : Fate) → within 1 5 (fateNumber f) ≡ true
 unfolding within
 fateNumber-within Sent = refl
 fateNumber-within Rejected = refl

@@ -1,0 +1,136 @@
+-- No policy holds more than room just after an arrival. Plain greedy takes a packet in only where there is room or another is lost, PG and MF likewise, and
+-- the plan keeps a packet only if all that it has kept fits.
+use Prim.Native.Nat.{ℕ, zero, suc, _+_, _-_, _≤_}
+use native.Mathlib.Omega.{arith}
+use mathlib.Core.Path.{_≡_, refl}
+use mathlib.Core.Bool.{Bool, true, false, cond, and-eq-true-iff}
+use mathlib.Core.List.{List, [], _∷_, _++_}
+use lib.ListN.{length, getD, replicate, length-append}
+use lib.Dec.{leb, ltb}
+use borrow.Author.Tests.{ltb-true, leb-true, le-leb}
+use Rattle.model.specs.declared.Beta.{Beta}
+use Rattle.model.specs.declared.LossKind.{LossKind}
+use Rattle.model.specs.declared.LossKind.the-variants.{PushedOut, Preempted}
+use Rattle.model.specs.declared.Packet.{Packet}
+use Rattle.model.specs.declared.Slot.{Slot}
+use Rattle.model.specs.Packets.{Arrival, nobody, valuesOf, slotsUntil, placeOf}
+use Rattle.model.specs.Course.{Policy, Decided, held, rejected, losing, byRule, slotEnds, first}
+use Rattle.model.specs.Policies.Greedy.{without, loserAt, overflow, greedyRule}
+use Rattle.model.specs.Policies.PG.{preemptedAt, pgRule}
+use Rattle.model.specs.Policies.MF.{Marking, mfPolicy}
+use Rattle.model.specs.Policies.Plan.{keptOf, keep, fitsFrom, fits, keepInTurn, byFallingValue, planKept, keptRule}
+use Rattle.laws.proofs.Times.{length-without}
+use Rattle.laws.proofs.Conserving.{Conserving, slotEnds-shorter, conserving-kept}
+use Rattle.laws.proofs.Entered.{eqb-cases}
+use Rattle.laws.proofs.Standing.{turn}
+use Rattle.laws.proofs.Held.{mostQueue}
+
+-- an arrival leaves no more than room held
+abbrev pub Roomy : {S : Type 0} → ℕ → Policy S → Type 0
+Roomy {S} room P = (a : Arrival) (s : S) → length (P .held s) ≤ room → length (P .held (P .arrive a s .next)) ≤ room
+
+pub mostQueue-roomy : {S : Type 0} {P : Policy S} → Conserving P → (room : ℕ) → Roomy room P → (now : Slot) (s : S) (trace : List Arrival) →
+    length (P .held s) ≤ room → mostQueue P now s trace ≤ room
+unfolding mostQueue
+mostQueue-roomy C room R now s [] h = omega arith
+mostQueue-roomy {P} C room R now s (a ∷ trace) h =
+    let before = slotEnds P (slotsUntil now (a .slot)) now s in
+    let here = R a (before .next) (omega (arith, slotEnds-shorter C (slotsUntil now (a .slot)) now s)) in
+    omega (arith, mostQueue-roomy C room R (a .slot) (turn P now s a .next) trace here)
+
+module _ (room : ℕ) (queue : List Packet) (p : Packet) (h : length queue ≤ room) where
+  -- at a place that is found among the held packets the packet is lost, else another decision is taken
+  loses-roomy : (place : ℕ) (kind : LossKind) (other : Decided) → length (other .queue) ≤ room →
+      length
+      (cond (ltb place (length queue))
+      (record {
+        decision = losing (record { packet = getD queue place nobody; kind = kind });
+        queue = without place queue ++ p ∷ [];
+      })
+      other .queue)
+      ≤ room
+  loses-roomy place kind other k = go (ltb place (length queue)) refl
+    where
+      go : (t : Bool) → ltb place (length queue) ≡ t →
+          length
+          (cond t
+          (record {
+            decision = losing (record { packet = getD queue place nobody; kind = kind });
+            queue = without place queue ++ p ∷ [];
+          })
+          other .queue)
+          ≤ room
+      go true e = omega (arith, length-append (without place queue) (p ∷ []), length-without place queue (ltb-true place (length queue) e))
+      go false e = k
+
+  greedy-roomy : length (greedyRule room queue p .queue) ≤ room
+  unfolding greedyRule
+  greedy-roomy = go (ltb (length queue) room) refl
+    where
+      go : (t : Bool) → ltb (length queue) room ≡ t → length (cond t (record { decision = held; queue = queue ++ p ∷ [] }) (overflow queue p) .queue) ≤ room
+      go true e = omega (arith, length-append queue (p ∷ []), ltb-true (length queue) room e)
+      go false e = loses-roomy (loserAt (valuesOf (queue ++ p ∷ []))) PushedOut (record { decision = rejected; queue = queue }) h
+
+  pg-roomy : (beta : Beta) → length (pgRule room beta queue p .queue) ≤ room
+  unfolding pgRule
+  pg-roomy beta = loses-roomy (preemptedAt beta (p .value) (valuesOf queue)) Preempted (greedyRule room queue p) greedy-roomy
+
+pub roomy-greedy : (room : ℕ) → Roomy room (byRule (greedyRule room))
+roomy-greedy room a queue h = greedy-roomy room queue (a .packet) h
+
+pub roomy-pg : (room : ℕ) (beta : Beta) → Roomy room (byRule (pgRule room beta))
+roomy-pg room beta a queue h = pg-roomy room queue (a .packet) h beta
+
+pub roomy-mf : (room : ℕ) (M : Marking) (slots : List ℕ) → Roomy room (mfPolicy room M slots)
+roomy-mf room M slots a s h = greedy-roomy room (s .queue) (a .packet) h
+
+kept-adds : (kept : List ℕ) (queue : List Packet) (p : Packet) → length (keptRule kept queue p .queue) ≤ length queue + keptOf kept (p .number)
+unfolding keptRule
+kept-adds kept queue p =
+    eqb-cases (keptOf kept (p .number)) 1 _ (λ t q. rw t (omega (arith, length-append queue (p ∷ []), q))) λ t q. rw t (omega arith)
+
+-- what the plan counts when it tests whether its packets fit is no less than what its queue holds
+kept-room : (room : ℕ) (kept : List ℕ) (now : Slot) (queue : List Packet) (counted : ℕ) (trace : List Arrival) → length queue ≤ counted →
+    fitsFrom room kept now counted trace ≡ true → mostQueue (byRule (keptRule kept)) now queue trace ≤ room
+unfolding mostQueue fitsFrom
+kept-room room kept now queue counted [] h fit = omega arith
+kept-room room kept now queue counted (a ∷ trace) h fit =
+    let P = byRule (keptRule kept) in
+    let k = slotsUntil now (a .slot) in
+    let before = slotEnds P k now queue .next in
+    let after = (counted - k) + keptOf kept (a .packet .number) in
+    let both = and-eq-true-iff (leb after room) (fitsFrom room kept (a .slot) after trace) .0 fit in
+    let here : length (turn P now queue a .next) ≤ after =
+    omega (arith, slotEnds-shorter (conserving-kept kept) k now queue, kept-adds kept before (a .packet))
+    in
+    omega (arith, leb-true after room (both .0), kept-room room kept (a .slot) (turn P now queue a .next) after trace here (both .1))
+
+pub zeros : (n place : ℕ) → _≡_ {A = ℕ} (getD (replicate n 0) place 0) 0
+zeros zero place = refl
+zeros (suc n) zero = refl
+zeros (suc n) (suc place) = zeros n place
+
+none-fits : (room n : ℕ) (now : Slot) (before : ℕ) (trace : List Arrival) → before ≡ 0 → fitsFrom room (replicate n 0) now before trace ≡ true
+unfolding fitsFrom
+none-fits room n now before [] h = refl
+none-fits room n now before (a ∷ trace) h =
+    let after = (before - slotsUntil now (a .slot)) + keptOf (replicate n 0) (a .packet .number) in
+    let none : after ≡ 0 = omega (arith, zeros n (placeOf (a .packet .number))) in
+    and-eq-true-iff (leb after room) (fitsFrom room (replicate n 0) (a .slot) after trace) .1
+    (le-leb after room (omega arith), none-fits room n (a .slot) after trace none)
+
+keepInTurn-fits : (room : ℕ) (trace : List Arrival) (kept : List ℕ) (turn : List Arrival) → fits room trace kept ≡ true →
+    fits room trace (keepInTurn room trace kept turn) ≡ true
+unfolding keepInTurn
+keepInTurn-fits room trace kept [] h = h
+keepInTurn-fits room trace kept (a ∷ turn) h = keepInTurn-fits room trace _ turn (go (fits room trace (keep (a .packet .number) kept)) refl)
+  where
+    go : (t : Bool) → fits room trace (keep (a .packet .number) kept) ≡ t → fits room trace (cond t (keep (a .packet .number) kept) kept) ≡ true
+    go true e = e
+    go false e = h
+
+pub planKept-fits : (room : ℕ) (trace : List Arrival) → fits room trace (planKept room trace) ≡ true
+planKept-fits room trace = keepInTurn-fits room trace (replicate (length trace) 0) (byFallingValue trace) (none-fits room (length trace) first 0 trace refl)
+
+pub mostQueue-plan : (room : ℕ) (trace : List Arrival) → mostQueue (byRule (keptRule (planKept room trace))) first [] trace ≤ room
+mostQueue-plan room trace = kept-room room (planKept room trace) first [] 0 trace (omega arith) (planKept-fits room trace)
