@@ -1,16 +1,14 @@
 -- Demand 3 in the totals' words. A call that answers number 0 has passed all its tests, and the totals that it answers are its record's.
-use Prim.Native.Nat.{ℕ, _*_, _≤_}
+use Prim.Native.Nat.{ℕ}
 use mathlib.Core.Path.{_≡_, refl}
 use mathlib.Core.Bool.{Bool, true, false, cond}
 use mathlib.Core.List.{List}
-use native.Mathlib.Omega.{arith}
 use lib.Dec.{eqb}
 use borrow.Author.Tests.{eqb-true, eqb-false}
 use Rattle.model.specs.Packets.{arrivals}
 use Rattle.model.specs.Record.{Lists, rows}
 use Rattle.model.specs.Rules.{Buffer, Verdict, Obeys, firstFault, orElse}
 use Rattle.model.specs.Refusals.{plainRefusal}
-use Rattle.model.specs.Answers.{Reply}
 use Rattle.model.specs.Policies.Greedy.{greedyRun}
 use Rattle.model.specs.Policies.Plan.{planRun}
 use Rattle.model.specs.Calls.{Outcome, replyTo, replyWith, ran, runUnless, planCall, greedyCall, auditCall}

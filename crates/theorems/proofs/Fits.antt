@@ -1,8 +1,8 @@
 -- A set of packets, 1 or 0 for each place of a trace, fits when no arrival leaves more than room of them held. A set that fits still fits when it
 -- shrinks; and where its queue does not become full before it idles, one packet more fits all the way.
-use Prim.Native.Nat.{ℕ, zero, suc, _+_, _-_, _≤_, _<_}
-use mathlib.Core.Path.{_≡_, refl, sym, ap, subst}
-use mathlib.Core.Bool.{Bool, true, false, cond, _&&_, _||_}
+use Prim.Native.Nat.{ℕ, suc, _+_, _-_, _≤_, _<_}
+use mathlib.Core.Path.{_≡_, refl}
+use mathlib.Core.Bool.{Bool, true, false, cond, _&&_, _||_, and-eq-true-iff}
 use mathlib.Core.List.{List, [], _∷_}
 use native.Mathlib.Omega.{arith}
 use lib.ListN.{getD}
@@ -11,7 +11,6 @@ use borrow.Author.Tests.{leb-true, leb-false, le-leb}
 use Rattle.model.specs.declared.Slot.{Slot}
 use Rattle.model.specs.Packets.{Arrival, placeOf, slotsUntil}
 use Rattle.model.specs.Policies.Plan.{fitsFrom}
-use Rattle.theorems.proofs.Accepted.{both}
 use Rattle.theorems.proofs.Each.{Each}
 
 abbrev pub placeIn : Arrival → ℕ
@@ -35,7 +34,7 @@ unfolding fitsFrom
 true-fits room kept now before [] e = tt
 true-fits room kept now before (a ∷ trace) e =
     let n = after (setOf kept) now before a in
-    let h = both (leb n room) (fitsFrom room kept (a .slot) n trace) e in
+    let h = and-eq-true-iff (leb n room) (fitsFrom room kept (a .slot) n trace) .0 e in
     (leb-true n room (h .0), true-fits room kept (a .slot) n trace (h .1))
 
 pub fits-true : (room : ℕ) (kept : List ℕ) (now : Slot) (before : ℕ) (trace : List Arrival) → Fits room (setOf kept) now before trace

@@ -11,18 +11,18 @@ use Rattle.model.specs.Policies.Plan.{planRun}
 use Rattle.model.specs.Refusals.{plainRefusal}
 use Rattle.theorems.specs.Demand3.{sentAtLeast, sentValue, rowsRun, LinesPlan, LinesGreedy, Demand3Plan, Demand3Greedy}
 use Rattle.theorems.proofs.Lines.{value-bound}
-use Rattle.theorems.proofs.Accepted.{Clear, accepted, values-rows}
+use Rattle.theorems.proofs.Trace.{in-range, values-rows}
 
 value-run : (factor : ℕ) (slots values : List ℕ) (room : ℕ) (lists : Lists) (entries : List Entry)
     → plainRefusal slots values room lists .number ≡ 0
     → ((w : ℕ) → sentAtLeast w (rows (arrivals slots values) lists) ≤ factor * sentAtLeast w (rowsRun slots values entries))
     → sentValue (rows (arrivals slots values) lists) ≤ factor * sentValue (rowsRun slots values entries)
 value-run factor slots values room lists entries e h =
-    let trace = accepted slots values room lists e .trace in
+    let ok = in-range slots values room lists e in
     let made = recordOf (length slots) entries in
     value-bound factor (recordLimits .value) _ _
-    (values-rows 0 1 (arrivals slots values) (lists .fates) (lists .whens) (lists .bys) trace)
-    (values-rows 0 1 (arrivals slots values) (made .fates) (made .whens) (made .bys) trace)
+    (values-rows (arrivals slots values) (lists .fates) (lists .whens) (lists .bys) ok)
+    (values-rows (arrivals slots values) (made .fates) (made .whens) (made .bys) ok)
     h
 
 pub plan-from-lines : LinesPlan → Demand3Plan

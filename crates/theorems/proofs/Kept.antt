@@ -1,17 +1,17 @@
 -- What keeping packets in turn comes to: the kept packets fit, none of them is let go later, and a packet that is not kept does not fit with those that
 -- are.
-use Prim.Native.Nat.{ℕ, zero, suc, _+_, _≤_, _<_}
-use mathlib.Core.Path.{_≡_, refl, sym, ap, subst, _∙_}
+use Prim.Native.Nat.{ℕ, zero, suc, _≤_, _<_}
+use mathlib.Core.Path.{_≡_, refl, _∙_}
 use mathlib.Core.Bool.{Bool, true, false, cond}
 use mathlib.Core.List.{List, [], _∷_, _++_}
 use native.Mathlib.Omega.{arith}
-use lib.ListN.{length, getD, set, length-set}
+use lib.ListN.{length, set, length-set}
 use lib.Seq.{getD-set-same, getD-set-other}
 use lib.Dec.{eqb}
 use borrow.Author.Tests.{eqb-true, eqb-false}
 use Rattle.model.specs.Packets.{Arrival}
 use Rattle.model.specs.Course.{first}
-use Rattle.model.specs.Policies.Plan.{fits, fitsFrom, keepInTurn}
+use Rattle.model.specs.Policies.Plan.{fits, keepInTurn}
 use Rattle.laws.proofs.Entered.{eqb-cases}
 use Rattle.theorems.proofs.Each.{Each}
 use Rattle.theorems.proofs.Fits.{placeIn, Fits, setOf, true-fits, fits-true, fits-less, more}

@@ -1,9 +1,9 @@
 -- Why the statements of specs/ are true.
+pub mod Each
 pub mod Lines
-pub mod Accepted
+pub mod Trace
 pub mod FromLines
 pub mod Sending
-pub mod Each
 pub mod Queue
 pub mod Lowest
 pub mod SentBy

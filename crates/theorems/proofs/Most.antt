@@ -1,12 +1,12 @@
 -- No record that obeys the rules sends more packets of value at least w than a set B that fits and with which no other such packet fits. With of B
 -- `came` so far and b held, and of the record `arrived` so far and `gone` already sent: where B's queue becomes full before it idles, gone + b is at
 -- most came; where it does not, arrived is at most came.
-use Prim.Native.Nat.{ℕ, zero, suc, _+_, _-_, _≤_, _<_}
-use mathlib.Core.Path.{_≡_, refl, sym, ap, subst}
+use Prim.Native.Nat.{ℕ, zero, suc, _+_, _-_, _≤_}
+use mathlib.Core.Path.{_≡_, refl, subst}
 use mathlib.Core.Bool.{Bool, true, false, cond, _&&_, _||_}
 use mathlib.Core.List.{List, [], _∷_}
 use native.Mathlib.Omega.{arith}
-use lib.Dec.{leb, eqb}
+use lib.Dec.{leb}
 use borrow.Author.Tests.{leb-true, leb-false, eq-eqb, ne-eqb}
 use Rattle.model.specs.declared.Slot.{Slot}
 use Rattle.model.specs.declared.Fate.the-variants.{Sent}
@@ -16,8 +16,9 @@ use Rattle.model.specs.Course.{first}
 use Rattle.model.specs.Rules.{Buffer, Obeys, ObeysFrom, hasFate, countOf}
 use Rattle.theorems.specs.Demand3.{sentAtLeast}
 use Rattle.theorems.proofs.Each.{Each, each-map, each-both}
-use Rattle.theorems.proofs.Accepted.{Accepted, arrivalOf, traceOf}
-use Rattle.theorems.proofs.Sending.{isSentHi, sentBefore, Standing, before-sent, more-by, before-arrival, standing}
+use Rattle.laws.proofs.Standing.{Comes}
+use Rattle.theorems.proofs.Trace.{arrivalOf, traceOf}
+use Rattle.theorems.proofs.Sending.{isSentHi, sentBefore, SoFar, before-sent, more-by, before-arrival, so-far}
 use Rattle.theorems.proofs.Fits.{placeIn, after, Fits, fits-less, more, fills, room-now, room-left}
 
 -- how many packets of a trace are in a set
@@ -25,10 +26,10 @@ unfoldable pub setIn : (ℕ → ℕ) → List Arrival → ℕ
 setIn set [] = 0
 setIn set (a ∷ trace) = set (placeIn a) + setIn set trace
 
-later-places : (k now : ℕ) (trace : List Arrival) → Accepted k now trace → Each (λ a. k ≤ placeIn a) trace
-later-places k now [] a = tt
-later-places k now (b ∷ trace) a =
-    (omega (arith, a .0), each-map (λ x. suc k ≤ placeIn x) (λ x. k ≤ placeIn x) (λ x h. omega arith) trace (later-places (suc k) (b .slot .0) trace (a .3)))
+later-places : (slots : List ℕ) (k now : ℕ) (trace : List Arrival) → Comes slots now k trace → Each (λ a. k ≤ placeIn a) trace
+later-places slots k now [] a = tt
+later-places slots k now (b ∷ trace) a =
+    (omega (arith, a .0 .number), each-map (λ x. suc k ≤ placeIn x) (λ x. k ≤ placeIn x) (λ x h. omega arith) trace (later-places slots (suc k) (b .slot .0) trace (a .1)))
 
 -- a gap: what holds before it holds after it, of the queue as it will be after the next arrival
 over-gap : (room b gap came arrived gone gone′ : ℕ) (full lasts later : Bool) → leb room b ≡ full → leb gap b ≡ lasts
@@ -56,14 +57,14 @@ module _ (w room : ℕ) (set : ℕ → ℕ) where
   abbrev pub Blocks : Slot → ℕ → List Arrival → Arrival → Type 0
   Blocks now b trace x = w ≤ x .packet .value → set (placeIn x) ≡ 0 → Fits room (more (placeIn x) set) now b trace → ⊥
 
-  module _ (now : Slot) (b k : ℕ) (a : Arrival) (trace : List Arrival)
-      (accepted : Accepted k (now .0) (a ∷ trace)) (fits : Fits room set now b (a ∷ trace)) where
+  module _ (slots : List ℕ) (now : Slot) (b k : ℕ) (a : Arrival) (trace : List Arrival)
+      (comes : Comes slots (now .0) k (a ∷ trace)) (fits : Fits room set now b (a ∷ trace)) where
     later : Each (λ x. suc k ≤ placeIn x) trace
-    later = later-places (suc k) (a .slot .0) trace (accepted .3)
+    later = later-places slots (suc k) (a .slot .0) trace (comes .1)
 
     -- at another place the set is as it was
     other : (x : Arrival) → suc k ≤ placeIn x → more (placeIn x) set (placeIn a) ≡ set (placeIn a)
-    other x h = rw (ne-eqb (placeIn a) (placeIn x) (λ e. omega (arith, accepted .0)))
+    other x h = rw (ne-eqb (placeIn a) (placeIn x) (λ e. omega (arith, comes .0 .number)))
 
     pub still-blocks : Each (Blocks now b (a ∷ trace)) trace → Each (Blocks (a .slot) (after set now b a) trace) trace
     still-blocks h =
@@ -84,7 +85,7 @@ module _ (w room : ℕ) (set : ℕ → ℕ) where
             let n = after set now b a in
             let one : after (more (placeIn a) set) now b a ≡ suc n = rw (eq-eqb (placeIn a) (placeIn a) refl) (omega arith) in
             let same = each-map (λ x. suc k ≤ placeIn x) (λ x. more (placeIn a) set (placeIn x) ≤ set (placeIn x))
-            (λ x h. rw (ne-eqb (placeIn x) (placeIn a) (λ q. omega (arith, accepted .0))) (omega arith)) trace later in
+            (λ x h. rw (ne-eqb (placeIn x) (placeIn a) (λ q. omega (arith, comes .0 .number))) (omega arith)) trace later in
             absurd (block v z
             (rw one (
               room-now room set (a .slot) n trace e,
@@ -102,9 +103,9 @@ module _ (w room : ℕ) (set : ℕ → ℕ) where
       go true true e = h (leb-true w (r .value) e)
 
   most-walk : (slots : List ℕ) (k came b : ℕ) (now : Slot) (older rows : List Row)
-      → Accepted k (now .0) (traceOf rows)
+      → Comes slots (now .0) k (traceOf rows)
       → ObeysFrom (record { slots = slots; room = room }) older rows
-      → Standing w room (now .0) older
+      → SoFar w room (now .0) older
       → Fits room set now b (traceOf rows)
       → Each (Blocks now b (traceOf rows)) (traceOf rows)
       → (fills room set now b (traceOf rows) ≡ true → sentBefore w (now .0) older + b ≤ came)
@@ -117,22 +118,22 @@ module _ (w room : ℕ) (set : ℕ → ℕ) where
       let B : Buffer = record { slots = slots; room = room } in
       let p = arrivalOf r in
       let gap = slotsUntil now (r .slot) in
-      let here = standing w B older r (o .0) (s .order) in
+      let here = so-far w B older r (o .0) (s .order) in
       let same = before-arrival w B older r (o .0) in
       let gone = sentBefore w (now .0) older in
       let gone′ = sentBefore w (r .slot .0) older in
-      let later : gone′ ≤ gone + gap = subst (λ (t : ℕ). sentBefore w t older ≤ gone + gap) (omega (arith, a .1)) (more-by w (now .0) gap older (s .order)) in
+      let later : gone′ ≤ gone + gap = subst (λ (t : ℕ). sentBefore w t older ≤ gone + gap) (omega (arith, a .0 .later)) (more-by w (now .0) gap older (s .order)) in
       let gapped = over-gap room b gap came (sentAtLeast w older) gone gone′ (leb room b) (leb gap b) (fills room set (r .slot) (after set now b p) (traceOf rows))
       refl refl (s .held) later (before-sent w (r .slot .0) older) busy slack in
       omega (
         arith,
-        most-walk slots (suc k) (came + set (placeIn p)) (after set now b p) (r .slot) (r ∷ older) rows (a .3) (o .1) here (f .1)
-            (still-blocks now b k p (traceOf rows) a f (blocks .1))
+        most-walk slots (suc k) (came + set (placeIn p)) (after set now b p) (r .slot) (r ∷ older) rows (a .1) (o .1) here (f .1)
+            (still-blocks slots now b k p (traceOf rows) a f (blocks .1))
             (λ e. rw same (omega (arith, gapped .0 e)))
-            (λ e. omega (arith, gapped .1 e, takes-in r (set (placeIn p)) (λ v. must-be-in now b k p (traceOf rows) a f e v (blocks .0)))),
+            (λ e. omega (arith, gapped .1 e, takes-in r (set (placeIn p)) (λ v. must-be-in slots now b k p (traceOf rows) a f e v (blocks .0)))),
       )
 
-  pub sent-most : (slots : List ℕ) (rows : List Row) → Accepted 0 1 (traceOf rows) → Obeys (record { slots = slots; room = room }) rows
+  pub sent-most : (slots : List ℕ) (rows : List Row) → Comes slots 1 0 (traceOf rows) → Obeys (record { slots = slots; room = room }) rows
       → Fits room set first 0 (traceOf rows)
       → Each (Blocks first 0 (traceOf rows)) (traceOf rows)
       → sentAtLeast w rows ≤ setIn set (traceOf rows)

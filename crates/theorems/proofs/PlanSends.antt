@@ -1,7 +1,7 @@
 -- The packets that the offline plan had kept when it had taken the last packet of value at least w: they fit, they block every other such packet, and
 -- the plan sends them all.
 use Prim.Native.Nat.{ℕ, zero, suc, _+_, _-_, _≤_, _<_}
-use mathlib.Core.Path.{_≡_, refl, sym, ap, subst, _∙_}
+use mathlib.Core.Path.{_≡_, refl, sym, ap, _∙_}
 use mathlib.Core.Bool.{Bool, true, false, cond}
 use mathlib.Core.List.{List, [], _∷_, _++_}
 use native.Mathlib.Omega.{arith}
@@ -14,14 +14,14 @@ use Rattle.model.specs.Packets.{Arrival, arrivals, arrivalsFrom, slotsUntil}
 use Rattle.model.specs.Course.{Decided, held, rejected, first}
 use Rattle.model.specs.Policies.Plan.{byFallingValue, keepInTurn, planKept, keptRule}
 use Rattle.laws.proofs.Entered.{eqb-cases}
-use Rattle.theorems.proofs.Accepted.{length-arrivals}
-use Rattle.theorems.proofs.Each.{Each, each-map, each-both}
+use Rattle.theorems.proofs.Trace.{length-arrivals}
+use Rattle.theorems.proofs.Each.{Each, each-map}
 use Rattle.theorems.proofs.Queue.{hi, hiIn, hi-append}
 use Rattle.theorems.proofs.SentBy.{sentBy}
 use Rattle.theorems.proofs.Fits.{placeIn, after, Fits, setOf}
 use Rattle.theorems.proofs.Most.{setIn, Blocks}
 use Rattle.theorems.proofs.FallingValue.{picked, atLeast, below, each-falling, falling-each, each-picked, picked-each, order-split}
-use Rattle.theorems.proofs.Kept.{Keeping, Within, Settled, Ended, in-turn, in-turn-only, in-turn-append}
+use Rattle.theorems.proofs.Kept.{Keeping, Settled, Ended, in-turn, in-turn-only, in-turn-append}
 
 -- a packet stands at its number's place, and its value too
 abbrev pub Placed : ℕ → List ℕ → Arrival → Type 0

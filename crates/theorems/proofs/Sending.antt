@@ -1,14 +1,14 @@
 -- What demand 3 needs of a record that obeys the rules: of its sent packets of value at least w, at most one more is sent at each slot's end, none is
 -- sent before it arrives, and at most room have arrived and are still to be sent just after any arrival.
-use Prim.Native.Nat.{ℕ, zero, suc, _+_, _≤_, _<_}
+use Prim.Native.Nat.{ℕ, zero, suc, _+_, _≤_}
 use mathlib.Core.Path.{_≡_, refl}
-use mathlib.Core.Bool.{Bool, true, false, cond, not, _&&_, _||_}
+use mathlib.Core.Bool.{Bool, true, false, cond, _&&_, _||_}
 use mathlib.Core.List.{List, [], _∷_}
 use native.Mathlib.Nat.{add-zero, add-suc}
 use native.Mathlib.Omega.{arith}
 use lib.Dec.{leb, ltb}
-use borrow.Author.Tests.{ltb-true, ltb-false, leb-true, leb-false, lt-ltb, le-ltb}
-use Rattle.model.specs.declared.Fate.the-variants.{Sent, Rejected, Flushed}
+use borrow.Author.Tests.{ltb-true, ltb-false, leb-false, lt-ltb}
+use Rattle.model.specs.declared.Fate.the-variants.{Sent, Flushed}
 use Rattle.model.specs.Record.{Row}
 use Rattle.model.specs.Rules.{Buffer, Faultless, hasFate, isLost, countOf, whenWrong, notAfterLast, notLater, isHeldAt, overRoom}
 use Rattle.theorems.specs.Demand3.{sentAtLeast}
@@ -99,7 +99,7 @@ more-by w t zero rows o = rw (add-zero t) (omega arith)
 more-by w t (suc n) rows o = rw (add-suc t n) (omega (arith, one-more w (t + n) rows o, more-by w t n rows o))
 
 -- where a record stands in slot `now`, its packets up to the newest of `older` having arrived
-pub record Standing (w room now : ℕ) (older : List Row) : Type 0 where
+pub record SoFar (w room now : ℕ) (older : List Row) : Type 0 where
   pub order : InOrder older
   pub held : sentAtLeast w older ≤ sentBefore w now older + room
 
@@ -136,9 +136,9 @@ module _ (w : ℕ) (B : Buffer) (older : List Row) (r : Row) (h : Faultless B ol
   unfolding sentBefore countOf
   before-arrival = omega (arith, sent-later B older r w h)
 
-  pub standing : InOrder older → Standing w (B .room) (r .slot .0) (r ∷ older)
+  pub so-far : InOrder older → SoFar w (B .room) (r .slot .0) (r ∷ older)
   unfolding sentBefore sentAtLeast overRoom
-  standing o =
+  so-far o =
       record {
         order = (h .3, o);
         held = omega (

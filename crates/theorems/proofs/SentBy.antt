@@ -1,7 +1,7 @@
 -- The packets that a rule's run sends, in order of sending: in a gap of n slots the first n of the queue, and in the end all that is left. They are the
 -- packets of the run's entries with fate sent.
-use Prim.Native.Nat.{ℕ, zero, suc, _+_, _≤_}
-use mathlib.Core.Path.{_≡_, refl, sym, ap, _∙_}
+use Prim.Native.Nat.{ℕ, zero, suc, _+_}
+use mathlib.Core.Path.{_≡_, refl, _∙_}
 use mathlib.Core.Bool.{Bool, true, false, cond, _&&_}
 use mathlib.Core.List.{List, [], _∷_, _++_}
 use native.Mathlib.Omega.{arith}
@@ -13,7 +13,7 @@ use Rattle.model.specs.declared.Packet.{Packet}
 use Rattle.model.specs.declared.LossKind.{LossKind}
 use Rattle.model.specs.declared.LossKind.the-variants as kinds
 use Rattle.model.specs.Packets.{Arrival, slotsUntil, following}
-use Rattle.model.specs.Record.{Entry, fateNumber, lossFate, lostTo}
+use Rattle.model.specs.Record.{Entry, fateNumber, lossFate}
 use Rattle.model.specs.Course.{Decision, Decided, held, rejected, losing, entriesOf, byRule, slotEnds, course}
 use Rattle.laws.proofs.Times.{times, times-append, ofPacket, timesHeld}
 use Rattle.laws.proofs.Fifo.{Fair, holds, rejects, loses}

@@ -1,14 +1,14 @@
 -- No record that obeys the rules sends more than twice as many packets of value at least w as a rule that pushes out the lowest. With g sent by the
 -- rule, h held and c in the run at its head, and of the record `arrived` so far and `gone` already sent, either arrived is at most 2 g + h, or it is at
 -- most 2 g + h + c and gone is at most 2 g + c.
-use Prim.Native.Nat.{ℕ, zero, suc, _+_, _-_, _*_, _≤_, _<_}
+use Prim.Native.Nat.{ℕ, zero, suc, _+_, _-_, _*_, _≤_}
 use mathlib.Core.Path.{_≡_, refl, sym, ap, subst}
 use mathlib.Core.Bool.{Bool, true, false, cond, _&&_}
 use mathlib.Core.List.{List, [], _∷_, _++_}
 use native.Mathlib.Omega.{arith}
 use lib.ListN.{length, take, drop, length-append}
 use lib.Dec.{leb, ltb}
-use borrow.Author.Tests.{leb-true, leb-false, ltb-true, ltb-false}
+use borrow.Author.Tests.{leb-true, ltb-true, ltb-false}
 use Rattle.model.specs.declared.Slot.{Slot}
 use Rattle.model.specs.declared.Packet.{Packet}
 use Rattle.model.specs.declared.Fate.the-variants.{Sent}
@@ -16,9 +16,10 @@ use Rattle.model.specs.Record.{Row}
 use Rattle.model.specs.Course.{Decided, first}
 use Rattle.model.specs.Rules.{Buffer, Obeys, ObeysFrom, hasFate, countOf}
 use Rattle.theorems.specs.Demand3.{sentAtLeast}
-use Rattle.theorems.proofs.Accepted.{Accepted, arrivalOf, traceOf}
-use Rattle.theorems.proofs.Sending.{isSentHi, sentBefore, Standing, InOrder, before-sent, one-more, before-arrival, standing}
-use Rattle.theorems.proofs.Queue.{hi, hiIn, hiRun, AtLeast, hi-append, hi-length, run-hi, run-append, run-without, run-all}
+use Rattle.laws.proofs.Standing.{Comes}
+use Rattle.theorems.proofs.Trace.{arrivalOf, traceOf}
+use Rattle.theorems.proofs.Sending.{isSentHi, sentBefore, SoFar, InOrder, before-sent, one-more, before-arrival, so-far}
+use Rattle.theorems.proofs.Queue.{hi, hiIn, hiRun, hi-append, hi-length, run-hi, run-append, run-without, run-all}
 use Rattle.theorems.proofs.Lowest.{LosesLowest, PushesOut}
 use Rattle.theorems.proofs.SentBy.{sentBy}
 
@@ -119,9 +120,9 @@ module _ (w room : ℕ) (rule : List Packet → Packet → Decided) (pushes : Pu
 
   -- the whole walk
   twice-walk : (slots : List ℕ) (k g : ℕ) (now : Slot) (queue : List Packet) (older rows : List Row)
-      → Accepted k (now .0) (traceOf rows)
+      → Comes slots (now .0) k (traceOf rows)
       → ObeysFrom (record { slots = slots; room = room }) older rows
-      → Standing w room (now .0) older
+      → SoFar w room (now .0) older
       → Twice (sentAtLeast w older) (sentBefore w (now .0) older) g (hiIn w queue) (hiRun w queue)
       → sentAtLeast w older + sentAtLeast w rows ≤ 2 * (g + hiIn w (sentBy rule now queue (traceOf rows)))
   unfolding sentBy sentAtLeast countOf
@@ -133,17 +134,17 @@ module _ (w room : ℕ) (rule : List Packet → Packet → Decided) (pushes : Pu
       let left = drop gap queue in
       let e = g + hiIn w (take gap queue) in
       let same = before-arrival w B older r (o .0) in
-      let here = standing w B older r (o .0) (s .order) in
-      let j1 = ends w gap (now .0) (r .slot .0) g e queue older (s .order) (omega (arith, a .1)) refl j in
+      let here = so-far w B older r (o .0) (s .order) in
+      let j1 = ends w gap (now .0) (r .slot .0) g e queue older (s .order) (omega (arith, a .0 .later)) refl j in
       let j2 = arrives (sentAtLeast w older) (sentBefore w (r .slot .0) older) e (cond (isSentHi w r) 1 0) left (arrivalOf r .packet)
       (before-sent w (r .slot .0) older) (takes-hi w r) (omega (arith, here .held)) j1 in
       omega (
         arith,
-        twice-walk slots (suc k) e (r .slot) (rule left (arrivalOf r .packet) .queue) (r ∷ older) rows (a .3) (o .1) here (rw same j2),
+        twice-walk slots (suc k) e (r .slot) (rule left (arrivalOf r .packet) .queue) (r ∷ older) rows (a .1) (o .1) here (rw same j2),
         hi-append w (take gap queue) (sentBy rule (r .slot) (rule left (arrivalOf r .packet) .queue) (traceOf rows)),
       )
 
-  pub sent-twice : (slots : List ℕ) (rows : List Row) → Accepted 0 1 (traceOf rows) → Obeys (record { slots = slots; room = room }) rows
+  pub sent-twice : (slots : List ℕ) (rows : List Row) → Comes slots 1 0 (traceOf rows) → Obeys (record { slots = slots; room = room }) rows
       → sentAtLeast w rows ≤ 2 * hiIn w (sentBy rule first [] (traceOf rows))
   unfolding sentAtLeast sentBefore countOf hiIn
   sent-twice slots rows a o =

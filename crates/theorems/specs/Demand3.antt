@@ -60,7 +60,14 @@ abbrev pub Demand3Greedy : Type 0
 Demand3Greedy =
     OfEachLawful λ slots values room lawful. sentValue lawful ≤ 2 * sentValue (greedyRows slots values room)
 
--- the same of what the calls answer: a passing audit's totals against those of a run that is not refused, whatever lists are lent to it
+-- the plan's record is itself one that obeys the rules, so its counts and its value are the greatest
+abbrev pub PlanObeys : Type 0
+PlanObeys =
+    (slots values : List ℕ) (room : ℕ) (lists : Lists)
+    → plainRefusal slots values room lists .number ≡ 0
+    → Obeys (record { slots = slots; room = room }) (planRows slots values room)
+
+-- demand 3 of what the calls answer: a passing audit's totals against those of a run that is not refused, whatever lists are lent to it
 abbrev pub TotalsPlan : Type 0
 TotalsPlan =
     (slots values : List ℕ) (room : ℕ) (audited lent : Lists)
