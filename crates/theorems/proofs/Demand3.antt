@@ -76,7 +76,8 @@ lines-plan slots values room lists e o w =
     let kept = planKept room trace in
     omega (
       arith,
-      most-over w room (setOf (keptHigh w room trace)) slots trace (rows trace lists) (over-trace slots values lists (c .lengths) (c .sized)) (c .comes) o
+      most-over w room (setOf (keptHigh w room trace)) slots trace (rows trace lists)
+          (over-trace slots values lists (c .lengths) (c .sized)) (c .comes) o
           (high-fits w room trace values places) (high-blocks w room trace values places),
       high-sent w room trace values places,
       rows-sent w (keptRule kept) (λ queue p. kept-fair queue p kept) slots values (c .lengths) (c .comes),

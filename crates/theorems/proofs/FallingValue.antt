@@ -123,9 +123,11 @@ order-split w (a ∷ trace) = go (leb w (a .packet .value)) refl (order-split w 
         let h : w ≤ a .packet .value = leb-true w (a .packet .value) e in
         rw (lt-leb (suc (a .packet .value)) w (omega arith), ih)
         (insert-high w a high low h
-        (each-map (λ y. below w (y .packet .value) ≡ true) (λ y. y .packet .value < w) (λ y p. leb-true (suc (y .packet .value)) w p) low (picked-pass (below w) trace)))
+        (each-map (λ y. below w (y .packet .value) ≡ true) (λ y. y .packet .value < w)
+        (λ y p. leb-true (suc (y .packet .value)) w p) low (picked-pass (below w) trace)))
     go false e ih =
         let h : a .packet .value < w = leb-false w (a .packet .value) e in
         rw (le-leb (suc (a .packet .value)) w h, ih)
         (insert-low w a high low h
-        (each-map (λ x. atLeast w (x .packet .value) ≡ true) (λ x. w ≤ x .packet .value) (λ x p. leb-true w (x .packet .value) p) high (picked-pass (atLeast w) trace)))
+        (each-map (λ x. atLeast w (x .packet .value) ≡ true) (λ x. w ≤ x .packet .value)
+        (λ x p. leb-true w (x .packet .value) p) high (picked-pass (atLeast w) trace)))

@@ -79,7 +79,8 @@ pub room-left : (room : ℕ) (set : ℕ → ℕ) (now : Slot) (before : ℕ) (tr
 unfolding fills
 room-left room set now before [] e f = tt
 room-left room set now before (a ∷ trace) e f =
-    go (leb gap before) refl (neither (leb room before) _ e .1) (λ d. room-now room set (a .slot) n trace d) (λ d. room-left room set (a .slot) n trace d (f .1))
+    go (leb gap before) refl (neither (leb room before) _ e .1) (room-now room set (a .slot) n trace)
+    (λ d. room-left room set (a .slot) n trace d (f .1))
   where
     gap : ℕ
     gap = slotsUntil now (a .slot)

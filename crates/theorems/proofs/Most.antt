@@ -28,8 +28,10 @@ setIn set (a ∷ trace) = set (placeIn a) + setIn set trace
 
 later-places : (slots : List ℕ) (k now : ℕ) (trace : List Arrival) → Comes slots now k trace → Each (λ a. k ≤ placeIn a) trace
 later-places slots k now [] a = tt
-later-places slots k now (b ∷ trace) a =
-    (omega (arith, a .0 .number), each-map (λ x. suc k ≤ placeIn x) (λ x. k ≤ placeIn x) (λ x h. omega arith) trace (later-places slots (suc k) (b .slot .0) trace (a .1)))
+later-places slots k now (b ∷ trace) a = (
+  omega (arith, a .0 .number),
+  each-map (λ x. suc k ≤ placeIn x) (λ x. k ≤ placeIn x) (λ x h. omega arith) trace (later-places slots (suc k) (b .slot .0) trace (a .1)),
+)
 
 -- a gap: what holds before it holds after it, of the queue as it will be after the next arrival
 over-gap : (room b gap came arrived gone gone′ : ℕ) (full lasts later : Bool) → leb room b ≡ full → leb gap b ≡ lasts
@@ -122,8 +124,10 @@ module _ (w room : ℕ) (set : ℕ → ℕ) where
       let same = before-arrival w B older r (o .0) in
       let gone = sentBefore w (now .0) older in
       let gone′ = sentBefore w (r .slot .0) older in
-      let later : gone′ ≤ gone + gap = subst (λ (t : ℕ). sentBefore w t older ≤ gone + gap) (omega (arith, a .0 .later)) (more-by w (now .0) gap older (s .order)) in
-      let gapped = over-gap room b gap came (sentAtLeast w older) gone gone′ (leb room b) (leb gap b) (fills room set (r .slot) (after set now b p) (traceOf rows))
+      let later : gone′ ≤ gone + gap = subst (λ (t : ℕ). sentBefore w t older ≤ gone + gap) (omega (arith, a .0 .later))
+      (more-by w (now .0) gap older (s .order)) in
+      let gapped = over-gap room b gap came (sentAtLeast w older) gone gone′ (leb room b) (leb gap b)
+      (fills room set (r .slot) (after set now b p) (traceOf rows))
       refl refl (s .held) later (before-sent w (r .slot .0) older) busy slack in
       omega (
         arith,

@@ -75,7 +75,8 @@ kept-held w n m kept queue a h =
     go : (t : Bool) → m ≤ cond t (hi w (a .packet)) 0 → hiIn w (take n queue) + hiIn w (drop n queue) ≡ hiIn w queue
         → hiIn w queue + m
         ≤ hiIn w (take n queue)
-        + hiIn w (cond {A = Decided} t (record { decision = held; queue = drop n queue ++ a .packet ∷ [] }) (record { decision = rejected; queue = drop n queue }) .queue)
+        + hiIn w (cond {A = Decided} t (record { decision = held; queue = drop n queue ++ a .packet ∷ [] })
+        (record { decision = rejected; queue = drop n queue }) .queue)
     go true h e = omega (arith, hi-append w (drop n queue) (a .packet ∷ []))
     go false h e = omega arith
 

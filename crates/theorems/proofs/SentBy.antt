@@ -105,4 +105,5 @@ module _ (P : Packet → Type 0) where
     each-sent now queue (a ∷ trace) h k =
         let gap = slotsUntil now (a .slot) in
         each-append P (take gap queue) _ (each-take P gap queue h)
-        (each-sent (a .slot) (rule (drop gap queue) (a .packet) .queue) trace (each-fair (fair (drop gap queue) (a .packet)) (each-drop P gap queue h) (k .0)) (k .1))
+        (each-sent (a .slot) (rule (drop gap queue) (a .packet) .queue) trace
+        (each-fair (fair (drop gap queue) (a .packet)) (each-drop P gap queue h) (k .0)) (k .1))

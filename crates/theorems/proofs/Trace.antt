@@ -73,7 +73,8 @@ in-range slots values room lists e =
     (orElse-zero _ _ (orElse-zero _ _ (orElse-zero _ _ (orElse-zero _ _ e .1) .1) .1) .1)
 
 -- whatever a record says, its rows have the trace's values
-pub values-rows : (trace : List Arrival) (fates whens bys : List ℕ) → Each InRange trace → ValuesTo (recordLimits .value) (rowsOf trace fates whens bys)
+pub values-rows : (trace : List Arrival) (fates whens bys : List ℕ) → Each InRange trace
+    → ValuesTo (recordLimits .value) (rowsOf trace fates whens bys)
 unfolding rowsOf
 values-rows [] fates whens bys h = tt
 values-rows (a ∷ trace) [] whens bys h = tt

@@ -1,5 +1,6 @@
 -- Demand 3. Whatever record obeys the buffer's rules on an accepted trace, the offline plan's record sends at least its value, and twice the value that
--- plain greedy's record sends is at least it. So too of the number of packets sent at or above any value w.
+-- plain greedy's record sends is at least it. So too of the number of packets sent at or above any value w. The proofs are in proofs/Demand3.antt and
+-- proofs/Answered.antt.
 use Prim.Native.Nat.{ℕ, _*_, _≤_}
 use mathlib.Core.Path.{_≡_}
 use mathlib.Core.Bool.{_&&_}
