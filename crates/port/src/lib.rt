@@ -1,4 +1,6 @@
 // The live PG port, a value, with the limits that belong to it. What its calls mean stands over plain lists in crate model.
+pub mod ranges;
+
 ghost use mathlib.Core.Path.{_≡_};
 ghost use Rattle.model.specs.Limits.{portLimits};
 ghost use Rattle.model.specs.Port.{fresh};

@@ -1,0 +1,5 @@
+pub mod Search
+pub mod Loser
+pub mod Choose
+pub mod Moving
+pub mod Packets

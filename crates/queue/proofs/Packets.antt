@@ -1,0 +1,62 @@
+-- The packets of a list of numbers and a list of values, taken apart and put together as the two lists are.
+use Prim.Native.Nat.{ℕ, zero, suc, _+_, _≤_, _<_}
+use mathlib.Core.Path.{_≡_, refl, ap}
+use mathlib.Core.List.{List, [], _∷_, _++_}
+use native.Mathlib.Omega.{arith}
+use lib.ListN.{length, getD, take, drop}
+use Rattle.model.specs.declared.Packet.{Packet}
+use Rattle.model.specs.Packets.{nobody, valuesOf}
+use Rattle.model.specs.Port.{packetsOf}
+
+abbrev packet : ℕ → ℕ → Packet
+packet k v = record { number = record { 0 = k }; value = v }
+
+pub packets-take : (n : ℕ) (numbers values : List ℕ) → packetsOf (take n numbers) (take n values) ≡ take n (packetsOf numbers values)
+unfolding packetsOf
+packets-take zero numbers values = refl
+packets-take (suc n) [] values = refl
+packets-take (suc n) (k ∷ numbers) [] = refl
+packets-take (suc n) (k ∷ numbers) (v ∷ values) = ap (λ (queue : List Packet). packet k v ∷ queue) (packets-take n numbers values)
+
+pub packets-drop : (n : ℕ) (numbers values : List ℕ) → packetsOf (drop n numbers) (drop n values) ≡ drop n (packetsOf numbers values)
+unfolding packetsOf
+packets-drop zero numbers values = refl
+packets-drop (suc n) [] values = refl
+packets-drop (suc n) (k ∷ numbers) [] = none (drop n numbers)
+  where
+    none : (numbers : List ℕ) → packetsOf numbers [] ≡ []
+    none [] = refl
+    none (k ∷ numbers) = refl
+packets-drop (suc n) (k ∷ numbers) (v ∷ values) = packets-drop n numbers values
+
+pub packets-append : (numbers values more others : List ℕ) → length numbers ≡ length values
+    → packetsOf (numbers ++ more) (values ++ others) ≡ packetsOf numbers values ++ packetsOf more others
+unfolding packetsOf
+packets-append [] [] more others same = refl
+packets-append [] (v ∷ values) more others same = absurd (omega arith)
+packets-append (k ∷ numbers) [] more others same = absurd (omega arith)
+packets-append (k ∷ numbers) (v ∷ values) more others same =
+    ap (λ (queue : List Packet). packet k v ∷ queue) (packets-append numbers values more others (omega arith))
+
+pub packets-values : (numbers values : List ℕ) → length numbers ≡ length values → valuesOf (packetsOf numbers values) ≡ values
+unfolding packetsOf
+packets-values [] [] same = refl
+packets-values [] (v ∷ values) same = absurd (omega arith)
+packets-values (k ∷ numbers) [] same = absurd (omega arith)
+packets-values (k ∷ numbers) (v ∷ values) same = ap (λ (vs : List ℕ). v ∷ vs) (packets-values numbers values (omega arith))
+
+pub packets-length : (numbers values : List ℕ) → length numbers ≡ length values → length (packetsOf numbers values) ≡ length values
+unfolding packetsOf
+packets-length [] [] same = refl
+packets-length [] (v ∷ values) same = absurd (omega arith)
+packets-length (k ∷ numbers) [] same = absurd (omega arith)
+packets-length (k ∷ numbers) (v ∷ values) same = ap suc (packets-length numbers values (omega arith))
+
+pub packets-at : (numbers values : List ℕ) (i : ℕ) → length numbers ≡ length values → i < length values
+    → getD (packetsOf numbers values) i nobody ≡ record { number = record { 0 = getD numbers i 0 }; value = getD values i 0 }
+unfolding packetsOf
+packets-at [] [] i same inside = absurd (omega arith)
+packets-at [] (v ∷ values) i same inside = absurd (omega arith)
+packets-at (k ∷ numbers) [] i same inside = absurd (omega arith)
+packets-at (k ∷ numbers) (v ∷ values) zero same inside = refl
+packets-at (k ∷ numbers) (v ∷ values) (suc i) same inside = packets-at numbers values i (omega arith) (omega arith)

@@ -1,0 +1,4 @@
+pub mod Windows
+pub mod Sending
+pub mod Arriving
+pub mod Turning

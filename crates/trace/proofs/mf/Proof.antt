@@ -1,0 +1,18 @@
+-- `trace::mf` meets its contract: `mfRefusal` is the order of every call, with lo, hi and r tested as its own and only lo and hi taken.
+use borrow.Author.Needs.{needs}
+use Rattle.trace.proofs.mf.Tie as tie
+use Rattle.model.specs.Refusals.{mfRefusal}
+use Rattle.trace.proofs.mf.Statement.{statement}
+
+marking-ok-requires : tie.Need-marking-ok-requires
+marking-ok-requires c κs = search needs
+
+in-order-requires : tie.Need-in-order-requires
+in-order-requires c κs = search needs
+
+returns : tie.Need-returns
+unfolding mfRefusal
+returns c = rw (← c .before .marking-ok .ensures) (c .in-order .ensures)
+
+pub mf-spec : {M : Type 1} → statement M
+mf-spec = tie.close (tie.spec marking-ok-requires in-order-requires returns)

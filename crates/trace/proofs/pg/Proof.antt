@@ -1,0 +1,18 @@
+-- `trace::pg` meets its contract: `pgRefusal` is the order of every call, with beta tested as its own.
+use borrow.Author.Needs.{needs}
+use Rattle.trace.proofs.pg.Tie as tie
+use Rattle.trace.proofs.pg.Statement.{statement}
+use Rattle.model.specs.Refusals.{pgRefusal}
+
+beta-ok-requires : tie.Need-beta-ok-requires
+beta-ok-requires c κs = search needs
+
+in-order-requires : tie.Need-in-order-requires
+in-order-requires c κs = search needs
+
+returns : tie.Need-returns
+unfolding pgRefusal
+returns c = rw (← c .before .beta-ok .ensures) (c .in-order .ensures)
+
+pub pg-spec : {M : Type 1} → statement M
+pg-spec = tie.close (tie.spec beta-ok-requires in-order-requires returns)

@@ -1,0 +1,214 @@
+// The test of a trace: refusals 1 to 6, in each call's order. What is refused, and at which place, stands in crate model.
+ghost use mathlib.Core.Path.{_≡_};
+ghost use Rattle.model.specs.Refusals.{unless, markingOk, slotOk, packetRefusal, traceRefusal, plainRefusal, pgRefusal, mfRefusal};
+ghost use Rattle.trace.specs.Checked.{verdictOf, listsOf, markingOf, okOf, slotAt, lengthsEqual, Counted};
+use model::Beta;
+use model::Cause;
+use model::Record;
+use model::Refusal;
+use port::ranges::beta_ok;
+use port::ranges::room_ok;
+use port::ranges::value_ok;
+
+// What the test of a trace answers.
+pub enum Checked {
+    Accepted,
+    Refused(Refusal),
+}
+
+// Which values a call takes: all that are in range, or of these only lo and hi.
+pub enum Values {
+    InRange,
+    LoOrHi(u32, u32),
+}
+
+fn slot_ok(before: u32, slot: u32) -> bool
+    ensures { λ r. ⌜ r ≡ slotOk (slotAt before) (slotAt slot) ⌝ }
+{
+    if slot < 1 {
+        return false;
+    }
+    if Record::SLOT < slot {
+        return false;
+    }
+    before <= slot
+}
+
+fn value_taken(taken: Values, value: u32) -> bool
+    ensures { λ r. ⌜ r ≡ okOf taken value ⌝ }
+{
+    if !value_ok(value) {
+        return false;
+    }
+    match taken {
+        Values::InRange => true,
+        Values::LoOrHi(lo, hi) => value == lo || value == hi,
+    }
+}
+
+fn marking_ok(lo: u32, hi: u32, r: usize) -> bool
+    ensures { λ ok. ⌜ ok ≡ markingOk (markingOf lo hi r) ⌝ }
+{
+    if !value_ok(lo) {
+        return false;
+    }
+    if !value_ok(hi) {
+        return false;
+    }
+    if hi <= lo {
+        return false;
+    }
+    r <= Record::R
+}
+
+// 5 and 6: the lowest packet with either, 5 first at one packet.
+fn packets(slots: &[u32], values: &[u32], taken: Values) -> Checked
+    requires { ⌜ Counted (now slots) (now values) ⌝ }
+    ensures { λ r. ⌜ verdictOf r ≡ packetRefusal (okOf taken) (now (slots .entry)) (now (values .entry)) ⌝ }
+{
+    let mut before: u32 = 0;
+    let mut i = 0;
+    while i < slots.len() {
+        let slot = slots[i];
+        let place = i as u32 + 1;
+        let slot_fits = slot_ok(before, slot);
+        let value_fits = value_taken(taken, values[i]);
+        if !slot_fits {
+            return Checked::Refused(Refusal {
+                cause: Cause::Slot,
+                place,
+            });
+        }
+        if !value_fits {
+            return Checked::Refused(Refusal {
+                cause: Cause::Value,
+                place,
+            });
+        }
+        before = slot;
+        i += 1;
+    }
+    Checked::Accepted
+}
+
+fn lengths_equal(slots: &[u32], values: &[u32], fates: &[u32], whens: &[u32], bys: &[u32]) -> bool
+    ensures { λ r. ⌜ r ≡ lengthsEqual (now (slots .entry)) (now (values .entry)) (listsOf (now (fates .entry)) (now (whens .entry)) (now (bys .entry))) ⌝ }
+{
+    let n = slots.len();
+    if values.len() != n {
+        return false;
+    }
+    if fates.len() != n {
+        return false;
+    }
+    if whens.len() != n {
+        return false;
+    }
+    bys.len() == n
+}
+
+// A refusal that names no place.
+fn refused(cause: Cause) -> Checked
+    ensures { λ r. ⌜ r ≡ Checked.Refused (record { cause = cause; place = 0 }) ⌝ }
+{
+    Checked::Refused(Refusal { cause, place: 0 })
+}
+
+// Every call on a trace: 1, 2, 3, 4 unless its own parameters pass, then 5 and 6.
+fn in_order(
+    slots: &[u32],
+    values: &[u32],
+    room: usize,
+    fates: &[u32],
+    whens: &[u32],
+    bys: &[u32],
+    own: bool,
+    taken: Values,
+) -> Checked
+    ensures { λ r. ⌜ verdictOf r ≡ traceRefusal (unless own 4) (okOf taken) (now (slots .entry)) (now (values .entry)) room (listsOf (now (fates .entry)) (now (whens .entry)) (now (bys .entry))) ⌝ }
+{
+    if !lengths_equal(slots, values, fates, whens, bys) {
+        return refused(Cause::Lengths);
+    }
+    if Record::PACKETS < slots.len() {
+        return refused(Cause::Packets);
+    }
+    if !room_ok(room) {
+        return refused(Cause::Room);
+    }
+    if !own {
+        return refused(Cause::Parameters);
+    }
+    packets(slots, values, taken)
+}
+
+// The test for plain greedy, the audit and the offline plan.
+pub fn plain(
+    slots: &[u32],
+    values: &[u32],
+    room: usize,
+    fates: &[u32],
+    whens: &[u32],
+    bys: &[u32],
+) -> Checked
+    ensures { λ r. ⌜ verdictOf r ≡ plainRefusal (now (slots .entry)) (now (values .entry)) room (listsOf (now (fates .entry)) (now (whens .entry)) (now (bys .entry))) ⌝ }
+{
+    in_order(
+        slots,
+        values,
+        room,
+        fates,
+        whens,
+        bys,
+        true,
+        Values::InRange,
+    )
+}
+
+pub fn pg(
+    slots: &[u32],
+    values: &[u32],
+    room: usize,
+    beta: Beta,
+    fates: &[u32],
+    whens: &[u32],
+    bys: &[u32],
+) -> Checked
+    ensures { λ r. ⌜ verdictOf r ≡ pgRefusal beta (now (slots .entry)) (now (values .entry)) room (listsOf (now (fates .entry)) (now (whens .entry)) (now (bys .entry))) ⌝ }
+{
+    in_order(
+        slots,
+        values,
+        room,
+        fates,
+        whens,
+        bys,
+        beta_ok(beta),
+        Values::InRange,
+    )
+}
+
+pub fn mf(
+    slots: &[u32],
+    values: &[u32],
+    room: usize,
+    lo: u32,
+    hi: u32,
+    r: usize,
+    fates: &[u32],
+    whens: &[u32],
+    bys: &[u32],
+) -> Checked
+    ensures { λ answer. ⌜ verdictOf answer ≡ mfRefusal (markingOf lo hi r) (now (slots .entry)) (now (values .entry)) room (listsOf (now (fates .entry)) (now (whens .entry)) (now (bys .entry))) ⌝ }
+{
+    in_order(
+        slots,
+        values,
+        room,
+        fates,
+        whens,
+        bys,
+        marking_ok(lo, hi, r),
+        Values::LoOrHi(lo, hi),
+    )
+}
