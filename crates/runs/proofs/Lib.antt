@@ -3,3 +3,4 @@ pub mod Sending
 pub mod Arriving
 pub mod Turning
 pub mod Running
+pub mod Counting

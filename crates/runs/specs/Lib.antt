@@ -2,3 +2,4 @@ pub mod Entry
 pub mod Window
 pub mod Step
 pub mod Run
+pub mod Totals
