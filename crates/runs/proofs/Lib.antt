@@ -4,3 +4,4 @@ pub mod Arriving
 pub mod Turning
 pub mod Running
 pub mod Counting
+pub mod Answering

@@ -3,3 +3,4 @@ pub mod Window
 pub mod Step
 pub mod Run
 pub mod Totals
+pub mod Calls
