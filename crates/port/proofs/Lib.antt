@@ -1,0 +1,6 @@
+pub mod Tests
+pub mod Padded
+pub mod Holding
+pub mod Parts
+pub mod Calls
+pub mod Choices
