@@ -4,3 +4,5 @@ pub mod Holding
 pub mod Parts
 pub mod Calls
 pub mod Choices
+pub mod Queues
+pub mod Sound
