@@ -1,24 +1,20 @@
 -- An accepted arrival under each choice: the choice made on the held values is PG's decision on the queue, a packet is held only where there is room, and a
 -- packet that is lost is one of those held.
-use Prim.Native.Nat.{ℕ, zero, suc, _+_, _-_, _≤_, _<_}
+use Prim.Native.Nat.{ℕ, _+_, _≤_, _<_}
 use mathlib.Core.Path.{_≡_, refl, sym, ap, ap₂, subst, _∙_}
 use mathlib.Core.Bool.{Bool, true, false, cond}
 use mathlib.Core.List.{List, [], _∷_, _++_}
 use native.Mathlib.Numerals.{add-one}
 use native.Mathlib.Omega.{arith}
-use lib.ListN.{length, getD, take, length-take}
+use lib.ListN.{length, take, length-take}
 use lib.Dec.{ltb}
 use borrow.Author.Tests.{ltb-true}
 use Rattle.model.specs.declared.Packet.{Packet}
-use Rattle.model.specs.declared.PacketNumber.{PacketNumber}
-use Rattle.model.specs.declared.LossKind.{LossKind}
 use Rattle.model.specs.Limits.{portLimits}
-use Rattle.model.specs.Packets.{nobody, valuesOf}
+use Rattle.model.specs.Packets.{valuesOf}
 use Rattle.model.specs.Policies.Greedy.{without, loserAt}
 use Rattle.model.specs.Refusals.{valueOk}
-use Rattle.model.specs.Answers.{PortReply, ofArrival}
-use Rattle.model.specs.declared.ArrivalAnswer.the-variants as arrival
-use Rattle.model.specs.Port.{PortState, PortOutcome, packetsOf, queueOf, holding, sound, arriveCall}
+use Rattle.model.specs.Port.{PortState, queueOf, holding, sound, arriveCall}
 use Rattle.queue.specs.declared.Rule.{Rule}
 use Rattle.queue.specs.declared.Rule.the-variants.{PG}
 use Rattle.queue.specs.declared.Choice.{Choice}
@@ -27,7 +23,7 @@ use Rattle.queue.specs.Choose.{betaPlace, overflowChoice, greedyChoice, choose}
 use Rattle.queue.proofs.Packets.{packets-values}
 use Rattle.port.specs.State.{Placed, Taking, stateOf}
 use Rattle.port.specs.declared.Taken.{Taken}
-use Rattle.port.proofs.Holding.{filled, held-length, holds-same, held-again, holding-placed, without-length}
+use Rattle.port.proofs.Holding.{held-length, held-again, holding-placed, without-length}
 use Rattle.port.proofs.Calls.{chosen, arrival-done}
 
 -- a choice that n held packets and this room allow
@@ -70,14 +66,21 @@ module _ (port : PortState) (values-whole : length (port .values) ≡ portLimits
           (sym e ∙ ap (λ (vs : List ℕ). choose (port .room) (PG (port .beta)) vs value) (sym held-values))
           ∙ sym (arrival-done port value sounds ok left)
 
--- what a loss leaves is in its places, with room for one more
-pub rest-placed : (port : PortState) → Placed port → port .held ≤ portLimits .room → (place : ℕ) → place < port .held → (taken : Taken) → Taking port place taken
-    → Placed (stateOf (taken .port)) × (taken .port .held < portLimits .room)
-unfolding holding
-rest-placed port P fits place inside taken T =
-    let q = without place (queueOf port) in
-    let n : length q ≡ length (queueOf port) - 1 = without-length place (queueOf port) (omega (arith, held-length port P)) in
-    let short : length q < portLimits .room = omega (arith, held-length port P) in (
-      subst Placed (sym (T .left)) (holding-placed port (port .last) q (omega arith)),
-      omega (arith, ap (λ (s : PortState). s .held) (T .left)),
-    )
+-- what a loss leaves is in its places, with room for one more, which then stands behind it
+module _ (port : PortState) (P : Placed port) (fits : port .held ≤ portLimits .room) (place : ℕ) (inside : place < port .held) (taken : Taken)
+    (T : Taking port place taken) where
+  short : length (without place (queueOf port)) < portLimits .room
+  short = omega (arith, held-length port P, without-length place (queueOf port) (omega (arith, held-length port P)))
+
+  pub rest-placed : Placed (stateOf (taken .port)) × (taken .port .held < portLimits .room)
+  unfolding holding
+  rest-placed = (
+    subst Placed (sym (T .left)) (holding-placed port (port .last) (without place (queueOf port)) (omega (arith, short))),
+    omega (arith, short, ap (λ (s : PortState). s .held) (T .left)),
+  )
+
+  pub rest-holds : (p : Packet) (after : PortState)
+      → after ≡ holding (stateOf (taken .port)) (p .number) (queueOf (stateOf (taken .port)) ++ p ∷ [])
+      → after ≡ holding port (p .number) (without place (queueOf port) ++ p ∷ [])
+  rest-holds p after held =
+      held-again port (port .last) (p .number) (without place (queueOf port)) p (omega (arith, short)) (stateOf (taken .port)) after (T .left) held

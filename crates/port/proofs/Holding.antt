@@ -1,22 +1,22 @@
 -- A port whose places hold its queue: what a store behind the queue and what taking a packet out make of it, as `holding` says.
-use Prim.Native.Nat.{ℕ, zero, suc, min, _+_, _-_, _≤_, _<_}
-use mathlib.Core.Path.{_≡_, refl, sym, ap, ap₂, subst, _∙_}
-use mathlib.Core.Bool.{Bool, true, false, _&&_}
+use Prim.Native.Nat.{ℕ, zero, suc, _+_, _-_, _≤_, _<_}
+use mathlib.Core.Path.{_≡_, refl, sym, ap, ap₂, _∙_}
+use mathlib.Core.Bool.{true}
 use mathlib.Core.List.{List, [], _∷_, _++_, map}
 use native.Mathlib.Omega.{arith}
 use lib.ListN.{length, getD, take, drop, set, length-append, length-take, length-drop, length-map}
-use lib.Seq.{take-at, getD-take}
-use lib.Dec.{leb, eqb}
+use lib.Seq.{take-at, drop-at, getD-take}
+use lib.Dec.{eqb}
 use Rattle.model.specs.declared.Packet.{Packet}
 use Rattle.model.specs.declared.PacketNumber.{PacketNumber}
 use Rattle.model.specs.Limits.{portLimits}
 use Rattle.model.specs.Packets.{nobody, valuesOf}
 use Rattle.model.specs.Policies.Greedy.{without}
-use Rattle.model.specs.Port.{PortState, packetsOf, queueOf, inPlaces, holding}
+use Rattle.model.specs.Port.{PortState, packetsOf, queueOf, inPlaces, holding, all}
 use Rattle.queue.specs.Slide.{slid}
 use Rattle.queue.proofs.Packets.{packets-values, packets-length, packets-at}
 use Rattle.port.specs.State.{Placed, TakenOut}
-use Rattle.port.proofs.Padded.{padded, is-padded, padded-length, stored, taken-out}
+use Rattle.port.proofs.Padded.{zeros-pass, padded-length, stored, taken-out}
 
 abbrev pub numbersOf : List Packet → List ℕ
 numbersOf queue = map (λ (p : Packet). p .number .0) queue
@@ -67,14 +67,19 @@ filled-same port last h v n = cc
 pub without-length : (place : ℕ) (queue : List Packet) → place < length queue → length (without place queue) ≡ length queue - 1
 without-length place queue inside = simp (length-append, length-take, length-drop) (omega arith)
 
+-- a queue in its places, and what is behind it
+module _ (queue : List Packet) (f : Packet → ℕ) where
+  pub front : take (length queue) (inPlaces (map f queue)) ≡ map f queue
+  front = take-at (map f queue) _ (length queue) (length-map queue f)
+
+  pub behind : all (eqb 0) (drop (length queue) (inPlaces (map f queue))) ≡ true
+  behind = ap (all (eqb 0)) (drop-at (map f queue) _ (length queue) (length-map queue f)) ∙ zeros-pass (portLimits .room - length (map f queue))
+
 -- a port with its queue in its places
 module _ (port : PortState) (last : PacketNumber) (queue : List Packet) (fits : length queue ≤ portLimits .room) where
-  front : (f : Packet → ℕ) → take (length queue) (inPlaces (map f queue)) ≡ map f queue
-  front f = take-at (map f queue) _ (length queue) (length-map queue f)
-
   pub queue-held : queueOf (holding port last queue) ≡ queue
   unfolding holding
-  queue-held = ap₂ packetsOf (front (λ (p : Packet). p .number .0)) (front (λ (p : Packet). p .value)) ∙ packets-both queue
+  queue-held = ap₂ packetsOf (front queue (λ (p : Packet). p .number .0)) (front queue (λ (p : Packet). p .value)) ∙ packets-both queue
 
   pub holding-placed : Placed (holding port last queue)
   unfolding holding

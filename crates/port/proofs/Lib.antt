@@ -1,6 +1,7 @@
 pub mod Tests
 pub mod Padded
 pub mod Holding
+pub mod Whole
 pub mod Parts
 pub mod Calls
 pub mod Choices

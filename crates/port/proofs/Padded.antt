@@ -25,6 +25,11 @@ zeros (v ∷ list) e =
     let tests = both _ _ e in
     ap₂ (λ (w : ℕ) (rest : List ℕ). w ∷ rest) (sym (eqb-true _ _ (tests .0))) (zeros list (tests .1))
 
+pub zeros-pass : (n : ℕ) → all (eqb 0) (replicate n 0) ≡ true
+unfolding all
+zeros-pass zero = refl
+zeros-pass (suc n) = zeros-pass n
+
 module _ (n : ℕ) where
   abbrev pub padded : List ℕ → List ℕ
   padded list = list ++ replicate (n - length list) 0

@@ -1,12 +1,11 @@
 -- Soundness is kept: a call leaves a queue that a sound port can hold, in places that are zero behind it; and an empty queue is shorter than any room.
-use Prim.Native.Nat.{ℕ, zero, suc, _+_, _-_, _≤_, _<_}
-use mathlib.Core.Path.{_≡_, refl, sym, ap, ap₂, subst, _∙_}
-use mathlib.Core.Bool.{Bool, true, false, _&&_}
-use mathlib.Core.List.{List, [], _∷_, _++_, map}
+use Prim.Native.Nat.{ℕ, _<_}
+use mathlib.Core.Path.{_≡_, refl, sym, ap, subst, _∙_}
+use mathlib.Core.Bool.{Bool, true, false}
+use mathlib.Core.List.{List, [], _∷_}
 use native.Mathlib.Omega.{arith}
-use lib.ListN.{length, take, drop, replicate, length-map}
-use lib.Seq.{take-at, drop-at}
-use lib.Dec.{leb, ltb, eqb}
+use lib.ListN.{length, length-map}
+use lib.Dec.{ltb}
 use borrow.Author.Tests.{ltb-true, ltb-false, lt-ltb}
 use Rattle.model.specs.declared.Beta.{Beta}
 use Rattle.model.specs.declared.Packet.{Packet}
@@ -15,25 +14,19 @@ use Rattle.model.specs.declared.LossKind.the-variants.{PushedOut, Preempted}
 use Rattle.model.specs.Limits.{portLimits}
 use Rattle.model.specs.Packets.{nobody, valuesOf}
 use Rattle.model.specs.Refusals.{valueOk, roomOk, betaOk}
-use Rattle.model.specs.Policies.Greedy.{greedyRule}
-use Rattle.model.specs.Policies.PG.{preemptedAt, pgRule}
-use Rattle.model.specs.Answers.{portSays}
-use Rattle.model.specs.Port.{PortState, PortOutcome, queueOf, places, fresh, holding, inPlaces, all, risesFrom, sound, saysOf, slotEnd, nextPacket, makeCall, arriveCall, endOfSlotCall}
+use Rattle.model.specs.Policies.PG.{preemptedAt}
+use Rattle.model.specs.Port.{PortState, PortOutcome, queueOf, fresh, holding, all, risesFrom, sound, slotEnd, nextPacket, makeCall, arriveCall}
 use Rattle.queue.specs.declared.Rule.the-variants.{PG}
 use Rattle.queue.specs.declared.Choice.{Choice}
 use Rattle.queue.specs.declared.Choice.the-variants.{Hold, Reject, Lose}
-use Rattle.queue.specs.Choose.{choose, greedyChoice, betaPlace, applied}
+use Rattle.queue.specs.Choose.{choose, greedyChoice}
 use Rattle.port.specs.Kept.{MadeSound, ArrivalKeeps, SlotKeeps, NeverUnsound, EmptyHolds}
-use Rattle.port.proofs.Holding.{numbersOf}
-use Rattle.port.proofs.Parts.{Sound, sound-parts, parts-sound, room-fits, room-some}
+use Rattle.port.proofs.Padded.{zeros-pass}
+use Rattle.port.proofs.Holding.{front, behind}
+use Rattle.port.proofs.Parts.{Sound, sound-parts, parts-sound, room-some}
 use Rattle.port.proofs.Calls.{making-room, making-beta, making-done, arrival-value, arrival-spent, arrival-done, chosen, slot-done, queue-none}
 use Rattle.port.proofs.Choices.{choice-allowed, Allowed}
 use Rattle.port.proofs.Queues.{Holdable, sound-queue, holdable-without, holdable-applied}
-
-zeros : (n : ℕ) → all (eqb 0) (replicate n 0) ≡ true
-unfolding all
-zeros zero = refl
-zeros (suc n) = zeros n
 
 -- a sound port with another queue that it can hold
 holding-sound : (port : PortState) → Sound port → (last : PacketNumber) (queue : List Packet) → Holdable (port .room) (last .0) queue
@@ -45,17 +38,11 @@ holding-sound port S last queue H =
       room-ok = S .room-ok;
       beta-ok = S .beta-ok;
       held-fits = H .short;
-      values-ok = ap (all valueOk) (front (λ (p : Packet). p .value)) ∙ H .values-ok;
-      numbers-rise = ap (risesFrom 0 (last .0)) (front (λ (p : Packet). p .number .0)) ∙ H .numbers-rise;
-      values-zero = behind (λ (p : Packet). p .value);
-      numbers-zero = behind (λ (p : Packet). p .number .0);
+      values-ok = ap (all valueOk) (front queue (λ (p : Packet). p .value)) ∙ H .values-ok;
+      numbers-rise = ap (risesFrom 0 (last .0)) (front queue (λ (p : Packet). p .number .0)) ∙ H .numbers-rise;
+      values-zero = behind queue (λ (p : Packet). p .value);
+      numbers-zero = behind queue (λ (p : Packet). p .number .0);
     })
-  where
-    front : (f : Packet → ℕ) → take (length queue) (inPlaces (map f queue)) ≡ map f queue
-    front f = take-at (map f queue) _ (length queue) (length-map queue f)
-
-    behind : (f : Packet → ℕ) → all (eqb 0) (drop (length queue) (inPlaces (map f queue))) ≡ true
-    behind f = ap (all (eqb 0)) (drop-at (map f queue) _ (length queue) (length-map queue f)) ∙ zeros (portLimits .room - length (map f queue))
 
 fresh-sound : (room : ℕ) (beta : Beta) → roomOk room ≡ true → betaOk beta ≡ true → sound (fresh room beta) ≡ true
 unfolding all risesFrom
@@ -67,8 +54,8 @@ fresh-sound room beta r b =
       held-fits = omega arith;
       values-ok = refl;
       numbers-rise = refl;
-      values-zero = zeros (portLimits .room);
-      numbers-zero = zeros (portLimits .room);
+      values-zero = zeros-pass (portLimits .room);
+      numbers-zero = zeros-pass (portLimits .room);
     })
 
 abbrev portOf : PortOutcome → PortState

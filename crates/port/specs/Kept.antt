@@ -1,5 +1,5 @@
 -- Soundness is kept by every live call, so a port that was made and is in use never gives 8; and an empty port never refuses a packet for want of room.
-use Prim.Native.Nat.{ℕ, suc, _<_}
+use Prim.Native.Nat.{ℕ, _<_}
 use mathlib.Core.Path.{_≡_}
 use mathlib.Core.Bool.{true}
 use Rattle.model.specs.declared.Beta.{Beta}

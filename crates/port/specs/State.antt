@@ -1,9 +1,8 @@
 -- The struct `Port` read as the plain state of model's definitions, field by field, and what a call hands back read as model's outcome.
-use Prim.Native.Nat.{ℕ, suc, _+_, _-_}
+use Prim.Native.Nat.{ℕ, _+_, _-_}
 use mathlib.Core.Path.{_≡_}
 use mathlib.Core.List.{List}
 use lib.ListN.{getD, set}
-use Rattle.model.specs.declared.Packet.{Packet}
 use Rattle.model.specs.Packets.{nobody}
 use Rattle.model.specs.Limits.{PortLimits}
 use Rattle.model.specs.Answers.{ofMaking, ofArrival, ofSlot, portRefused}

@@ -1,20 +1,14 @@
 -- `port::unmade` meets its contract: what it hands back is the empty port with no room and no beta.
 use mathlib.Core.Path.{ap}
-use Rattle.model.specs.Answers.{portRefused, causeNumber}
-use Rattle.model.specs.Port.{PortState, PortOutcome}
+use Rattle.model.specs.Answers.{causeNumber}
 use Rattle.port.specs.State.{refusing}
 use borrow.Author.Needs.{needs}
 use Rattle.port.proofs.unmade.Statement.{statement}
 use Rattle.port.proofs.unmade.Tie as tie
-use Rattle.port.proofs.unmade.Reads as reads
-use Rattle.port.proofs.unmade.Lts as lts
-use Rattle.port.proofs.empty.Reads as empty-reads
 
--- src/lib.rt:288:15
 empty-requires : tie.Need-empty-requires
 empty-requires c κs = search needs
 
--- src/lib.rt:284:1
 returns : tie.Need-returns
 returns c = ap (refusing (causeNumber (c .before .args .cause))) (c .empty .ensures)
 

@@ -2,130 +2,116 @@
 use Prim.Native.Nat.{_+_, _≤_}
 use mathlib.Core.Path.{_≡_, ap, ap₂, sym, _∙_}
 use native.Mathlib.Omega.{arith}
-use lib.ListN.{length, length-take, length-map}
+use lib.ListN.{length-take}
 use Rattle.model.specs.declared.Packet.{Packet}
 use Rattle.model.specs.declared.PacketNumber.{PacketNumber}
-use Rattle.model.specs.declared.Loss.{Loss}
 use Rattle.model.specs.declared.ArrivalAnswer.the-variants.{Held, HeldLosing, Rejected}
 use Rattle.model.specs.Limits.{portLimits}
-use Rattle.model.specs.Policies.Greedy.{without}
 use Rattle.model.specs.Answers.{ofArrival}
-use Rattle.model.specs.Port.{PortState, PortOutcome, queueOf}
-use Rattle.queue.specs.declared.Choice.the-variants.{Hold, Reject, Lose}
+use Rattle.model.specs.Port.{PortState, arriveCall}
+use Rattle.queue.specs.declared.Choice.{Choice}
+use Rattle.queue.specs.declared.Choice.the-variants.{Hold, Reject}
 use Rattle.port.specs.State.{stateOf, Placed}
-use Rattle.port.proofs.Holding.{holds-same, held-again, held-length, without-length}
+use Rattle.port.proofs.Whole.{values-whole, numbers-whole}
+use Rattle.port.proofs.Holding.{holds-same}
 use Rattle.port.proofs.Parts.{sound-parts, room-fits, sound-placed}
-use Rattle.port.proofs.Choices.{now-allowed, by-choice, rest-placed}
+use Rattle.port.proofs.Calls.{chosen}
+use Rattle.port.proofs.Choices.{Allowed, now-allowed, by-choice, rest-placed, rest-holds}
 use borrow.Author.Needs.{needs}
 use Rattle.port.proofs.Port.accept.Statement.{statement}
 use Rattle.port.proofs.Port.accept.Tie as tie
-use Rattle.port.proofs.Port.accept.Reads as reads
-use Rattle.port.proofs.Port.accept.Lts as lts
-use Rattle.port.proofs.Port.hold.Reads as hold-reads
-use Rattle.port.proofs.Port.take.Reads as take-reads
-use Rattle.queue.proofs.decide.Reads as decide-reads
-
--- the places are 256
-values-whole : (c : tie.Start) → length (c .args .self .values) ≡ portLimits .room
-values-whole c = sym (length-map (c .args .self .values) _) ∙ c .good .0 .1 .1 .1 .1 .1 .1 .0 .1 .0 .1
-
-numbers-whole : (c : tie.Start) → length (c .args .self .numbers) ≡ portLimits .room
-numbers-whole c = sym (length-map (c .args .self .numbers) _) ∙ c .good .0 .1 .1 .1 .1 .1 .1 .1 .0 .1 .0 .1
 
 placed : (c : tie.Start) → (c .args .self .held ≤ portLimits .room) × Placed (stateOf (c .args .self))
-placed c = sound-placed (stateOf (c .args .self)) (c .pre .0) (values-whole c) (numbers-whole c)
+placed c = sound-placed (stateOf (c .args .self)) (c .pre .0) (values-whole (c .args .self) (c .good .0)) (numbers-whole (c .args .self) (c .good .0))
 
--- src/lib.rt:200:35
+-- what the decision allows, and what it makes of the call
+allowed : (c : tie.After-decide) (choice : Choice) → c .decide .result ≡ choice
+    → Allowed (c .before .before .before .before .before .args .self .room) (c .before .before .before .before .before .args .self .held) choice
+allowed c choice e =
+    let start = c .before .before .before .before .before in
+    now-allowed (stateOf (start .args .self)) (values-whole (start .args .self) (start .good .0)) (numbers-whole (start .args .self) (start .good .0)) (start .args .value) choice
+    (sym (c .decide .ensures) ∙ e) (placed start .0)
+
+answered : (c : tie.After-decide) (choice : Choice) → c .decide .result ≡ choice
+    → chosen (stateOf (c .before .before .before .before .before .args .self)) (c .before .before .before .before .before .args .value)
+    (record {
+      number = record { 0 = c .before .before .before .before .before .args .self .last .0 + 1 };
+      value = c .before .before .before .before .before .args .value;
+    })
+    choice
+    ≡ arriveCall (stateOf (c .before .before .before .before .before .args .self)) (c .before .before .before .before .before .args .value)
+answered c choice e =
+    let start = c .before .before .before .before .before in
+    by-choice (stateOf (start .args .self)) (values-whole (start .args .self) (start .good .0)) (numbers-whole (start .args .self) (start .good .0)) (start .args .value) choice
+    (sym (c .decide .ensures) ∙ e) (start .pre .0) (start .pre .1 .0) (start .pre .1 .1)
+
 add-t13 : tie.Need-add-t13
 add-t13 c = search needs
 
--- src/lib.rt:205:22
 array-share-prefix-values : tie.Need-array-share-prefix-values
-array-share-prefix-values c = omega (arith, placed (c .before .before .before) .0, values-whole (c .before .before .before))
+array-share-prefix-values c = omega (arith, placed (c .before .before .before) .0, values-whole (c .before .before .before .args .self) (c .before .before .before .good .0))
 
--- src/lib.rt:205:22
 slice-aggregate-decide : tie.Need-slice-aggregate-decide
-slice-aggregate-decide c = simp length-take (omega (arith, placed (c .before .before .before .before) .0, values-whole (c .before .before .before .before)))
+slice-aggregate-decide c = simp length-take (omega (arith, placed (c .before .before .before .before) .0, values-whole (c .before .before .before .before .args .self) (c .before .before .before .before .good .0)))
 
--- src/lib.rt:205:15
 decide-requires : tie.Need-decide-requires
 decide-requires c κs = search needs
 
--- src/lib.rt:207:23
 enum-told : tie.Need-enum-told
 enum-told c = search needs
 
--- src/lib.rt:207:23
 hold-requires : tie.Need-hold-requires
 hold-requires c κs =
     let start = c .before .before .before .before .before .before .before in
     let port = stateOf (start .args .self) in
-    let chosen = sym (c .before .before .decide .ensures) ∙ c .enum-told .given .1 in
-    let room = now-allowed port (values-whole start) (numbers-whole start) (start .args .value) Hold chosen (placed start .0) in
-    (placed start .1, omega (arith, room, room-fits (port .room) (sound-parts port (start .pre .0) .room-ok)))
+    let free = allowed (c .before .before) Hold (c .enum-told .given .1) in
+    (placed start .1, omega (arith, free, room-fits (port .room) (sound-parts port (start .pre .0) .room-ok)))
 
--- src/lib.rt:211:17
 enum-told-2 : tie.Need-enum-told-2
 enum-told-2 c = search needs
 
--- src/lib.rt:217:26
 enum-known-place : tie.Need-enum-known-place
 enum-known-place c = search needs
 
--- src/lib.rt:218:21
 take-requires : tie.Need-take-requires
 take-requires c κs =
     let start = c .before .before .before .before .before .before .before .before in
-    let port = stateOf (start .args .self) in
-    let chosen = sym (c .before .before .before .decide .ensures) ∙ c .before .place .given .1 in
-    (placed start .1, (placed start .0, now-allowed port (values-whole start) (numbers-whole start) (start .args .value) _ chosen (placed start .0)))
+    (placed start .1, (placed start .0, allowed (c .before .before .before) _ (c .before .place .given .1)))
 
--- src/lib.rt:222:27
 hold-requires-2 : tie.Need-hold-requires-2
 hold-requires-2 c κs =
     let start = c .before .before .before .before .before .before .before .before .before .before .before in
-    let port = stateOf (start .args .self) in
     let told = c .before .before .before .before .place .given in
-    let chosen = sym (c .before .before .before .before .before .before .decide .ensures) ∙ told .1 in
-    let inside = now-allowed port (values-whole start) (numbers-whole start) (start .args .value) _ chosen (placed start .0) in
-    rest-placed port (placed start .1) (placed start .0) (told .0 .0) inside (c .before .before .take .result) (c .before .before .take .ensures)
+    let taken = c .before .before .take in
+    rest-placed (stateOf (start .args .self)) (placed start .1) (placed start .0) (told .0 .0) (allowed (c .before .before .before .before .before .before) _ (told .1)) (taken .result) (taken .ensures)
 
--- src/lib.rt:194:5
 returns : tie.Need-returns
 returns c =
-    let start = c .before .before .before .before .before .before .before .before in
-    let port = stateOf (start .args .self) in
-    let chosen = sym (c .before .before .before .decide .ensures) ∙ c .before .enum-told .given .1 in
+    let port = stateOf (c .before .before .before .before .before .before .before .before .args .self) in
     ap (λ (after : PortState). record { reply = ofArrival (Held (record { 0 = port .last .0 + 1 })); port = after }) (c .hold .ensures)
-    ∙ by-choice port (values-whole start) (numbers-whole start) (start .args .value) Hold chosen (start .pre .0) (start .pre .1 .0) (start .pre .1 .1)
+    ∙ answered (c .before .before .before) Hold (c .before .enum-told .given .1)
 
--- src/lib.rt:194:5
 returns-2 : tie.Need-returns-2
 returns-2 c =
     let start = c .before .before .before .before .before .before .before in
     let port = stateOf (start .args .self) in
-    let chosen = sym (c .before .before .decide .ensures) ∙ c .enum-told2 .given .1 in
-    ap (λ (after : PortState). record { reply = ofArrival (Rejected (record { 0 = port .last .0 + 1 })); port = after })
-    (holds-same port (placed start .1) (record { 0 = port .last .0 + 1 }))
-    ∙ by-choice port (values-whole start) (numbers-whole start) (start .args .value) Reject chosen (start .pre .0) (start .pre .1 .0) (start .pre .1 .1)
+    let number : PacketNumber = record { 0 = port .last .0 + 1 } in
+    ap (λ (after : PortState). record { reply = ofArrival (Rejected number); port = after }) (holds-same port (placed start .1) number)
+    ∙ answered (c .before .before) Reject (c .enum-told2 .given .1)
 
--- src/lib.rt:194:5
 returns-3 : tie.Need-returns-3
 returns-3 c =
     let start = c .before .before .before .before .before .before .before .before .before .before .before .before in
     let port = stateOf (start .args .self) in
     let told = c .before .before .before .before .before .place .given in
-    let chosen = sym (c .before .before .before .before .before .before .before .decide .ensures) ∙ told .1 in
-    let inside = now-allowed port (values-whole start) (numbers-whole start) (start .args .value) _ chosen (placed start .0) in
-    let take = c .before .before .before .take in
+    let taken = c .before .before .before .take in
     let number : PacketNumber = record { 0 = port .last .0 + 1 } in
-    let fits : length (without (told .0 .0) (queueOf port)) ≤ portLimits .room =
-    omega (arith, placed start .0, held-length port (placed start .1), without-length (told .0 .0) (queueOf port) (omega (arith, inside, held-length port (placed start .1)))) in
+    let p : Packet = record { number = number; value = start .args .value } in
+    let inside = allowed (c .before .before .before .before .before .before .before) _ (told .1) in
     ap₂ (λ (lost : Packet) (after : PortState). record { reply = ofArrival (HeldLosing number (record { packet = lost; kind = told .0 .1 .0 })); port = after })
-    (take .ensures .packet)
-    (held-again port (port .last) number (without (told .0 .0) (queueOf port)) (record { number = number; value = start .args .value }) fits
-    (stateOf (take .result .port)) (stateOf (c .hold2 .result)) (take .ensures .left) (c .hold2 .ensures))
-    ∙ by-choice port (values-whole start) (numbers-whole start) (start .args .value) _ chosen (start .pre .0) (start .pre .1 .0) (start .pre .1 .1)
+    (taken .ensures .packet)
+    (rest-holds port (placed start .1) (placed start .0) (told .0 .0) inside (taken .result) (taken .ensures) p (stateOf (c .hold2 .result)) (c .hold2 .ensures))
+    ∙ answered (c .before .before .before .before .before .before .before) _ (told .1)
 
 pub accept-spec : {M : Type 1} → statement M
 accept-spec =

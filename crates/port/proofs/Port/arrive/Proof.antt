@@ -9,12 +9,6 @@ use Rattle.port.proofs.Calls.{arrival-unsound, arrival-value, arrival-s
 use borrow.Author.Needs.{needs}
 use Rattle.port.proofs.Port.arrive.Statement.{statement}
 use Rattle.port.proofs.Port.arrive.Tie as tie
-use Rattle.port.proofs.Port.arrive.Reads as reads
-use Rattle.port.proofs.Port.arrive.Lts as lts
-use Rattle.port.proofs.Port.accept.Reads as accept-reads
-use Rattle.port.proofs.Port.is_sound.Reads as is-sound-reads
-use Rattle.port.proofs.Port.refuse.Reads as refuse-reads
-use Rattle.port.proofs.ranges.value_ok.Reads as value-ok-reads
 
 -- what each test that was passed says
 sounds : (c : tie.Else1) → sound (stateOf (c .before .before .before .before .args .self)) ≡ true
@@ -23,51 +17,41 @@ sounds c = sym (c .before .before .before .is-sound .ensures) ∙ not-false _ (c
 in-range : (c : tie.Else2) → valueOk (c .before .before .before .before .before .args .value) ≡ true
 in-range c = sym (c .before .before .before .value-ok .ensures) ∙ not-false _ (c .if2 .left)
 
--- src/lib.rt:140:13
 is-sound-requires : tie.Need-is-sound-requires
 is-sound-requires c κs = search needs
 
--- src/lib.rt:141:13
 value-ok-requires : tie.Need-value-ok-requires
 value-ok-requires c κs = search needs
 
--- src/lib.rt:144:13
 refuse-requires : tie.Need-refuse-requires
 refuse-requires c κs = search needs
 
--- src/lib.rt:144:13
 returns : tie.Need-returns
 returns c =
     let a = c .before .before .before .before .before .args in
     c .refuse .ensures ∙ arrival-unsound (stateOf (a .self)) (a .value) (sym (c .before .before .before .before .is-sound .ensures) ∙ not-true _ (c .before .if1 .taken))
 
--- src/lib.rt:147:13
 refuse-requires-2 : tie.Need-refuse-requires-2
 refuse-requires-2 c κs = search needs
 
--- src/lib.rt:147:13
 returns-2 : tie.Need-returns-2
 returns-2 c =
     let a = c .before .before .before .before .before .before .args in
     c .refuse2 .ensures
     ∙ arrival-value (stateOf (a .self)) (a .value) (sounds (c .before .before)) (sym (c .before .before .before .before .value-ok .ensures) ∙ not-true _ (c .before .if2 .taken))
 
--- src/lib.rt:150:13
 refuse-requires-3 : tie.Need-refuse-requires-3
 refuse-requires-3 c κs = search needs
 
--- src/lib.rt:150:13
 returns-3 : tie.Need-returns-3
 returns-3 c =
     let a = c .before .before .before .before .before .before .before .args in
     c .refuse3 .ensures
     ∙ arrival-spent (stateOf (a .self)) (a .value) (sounds (c .before .before .before)) (in-range (c .before .before)) (leb-true _ _ (c .before .if3 .taken))
 
--- src/lib.rt:152:9
 accept-requires : tie.Need-accept-requires
 accept-requires c κs = (sounds (c .before .before), (in-range (c .before), leb-false _ _ (c .if3 .left)))
 
--- src/lib.rt:137:5
 returns-4 : tie.Need-returns-4
 returns-4 c = search needs
 

@@ -3,57 +3,41 @@ use Prim.Native.Nat.{_≤_}
 use mathlib.Core.Path.{_≡_, ap₂, sym, _∙_}
 use mathlib.Core.Bool.{true}
 use native.Mathlib.Omega.{arith}
-use lib.ListN.{length, length-map}
 use borrow.Author.Tests.{not-true, not-false}
 use Rattle.model.specs.declared.Packet.{Packet}
 use Rattle.model.specs.declared.SlotAnswer.the-variants.{Sent}
 use Rattle.model.specs.Limits.{portLimits}
 use Rattle.model.specs.Answers.{ofSlot}
-use Rattle.model.specs.Port.{PortState, PortOutcome, sound}
+use Rattle.model.specs.Port.{PortState, sound}
 use Rattle.port.specs.State.{stateOf, Placed}
 use Rattle.port.proofs.Holding.{held-length}
+use Rattle.port.proofs.Whole.{values-whole, numbers-whole}
 use Rattle.port.proofs.Parts.{sound-placed}
 use Rattle.port.proofs.Calls.{slot-unsound, slot-idle, slot-sends}
 use borrow.Author.Needs.{needs}
 use Rattle.port.proofs.Port.end_of_slot.Statement.{statement}
 use Rattle.port.proofs.Port.end_of_slot.Tie as tie
-use Rattle.port.proofs.Port.end_of_slot.Reads as reads
-use Rattle.port.proofs.Port.end_of_slot.Lts as lts
-use Rattle.port.proofs.Port.is_sound.Reads as is-sound-reads
-use Rattle.port.proofs.Port.take.Reads as take-reads
-
--- the places are 256
-values-whole : (c : tie.Start) → length (c .args .self .values) ≡ portLimits .room
-values-whole c = sym (length-map (c .args .self .values) _) ∙ c .good .0 .1 .1 .1 .1 .1 .1 .0 .1 .0 .1
-
-numbers-whole : (c : tie.Start) → length (c .args .self .numbers) ≡ portLimits .room
-numbers-whole c = sym (length-map (c .args .self .numbers) _) ∙ c .good .0 .1 .1 .1 .1 .1 .1 .1 .0 .1 .0 .1
 
 sounds : (c : tie.Else1) → sound (stateOf (c .before .before .args .self)) ≡ true
 sounds c = sym (c .before .is-sound .ensures) ∙ not-false _ (c .if1 .left)
 
 placed : (c : tie.Else1) → (c .before .before .args .self .held ≤ portLimits .room) × Placed (stateOf (c .before .before .args .self))
-placed c = sound-placed (stateOf (c .before .before .args .self)) (sounds c) (values-whole (c .before .before)) (numbers-whole (c .before .before))
+placed c = sound-placed (stateOf (c .before .before .args .self)) (sounds c) (values-whole (c .before .before .args .self) (c .before .before .good .0)) (numbers-whole (c .before .before .args .self) (c .before .before .good .0))
 
--- src/lib.rt:159:13
 is-sound-requires : tie.Need-is-sound-requires
 is-sound-requires c κs = search needs
 
--- src/lib.rt:160:13
 returns : tie.Need-returns
 returns c = slot-unsound (stateOf (c .before .before .args .self)) (sym (c .before .is-sound .ensures) ∙ not-true _ (c .if1 .taken))
 
--- src/lib.rt:169:13
 returns-2 : tie.Need-returns-2
 returns-2 c = slot-idle (stateOf (c .before .before .before .before .args .self)) (sounds (c .before .before)) (c .if2 .taken)
 
--- src/lib.rt:174:13
 take-requires : tie.Need-take-requires
 take-requires c κs =
     let port = placed (c .before .before) in
     (port .1, (port .0, omega (arith, c .if2 .left)))
 
--- src/lib.rt:156:5
 returns-3 : tie.Need-returns-3
 returns-3 c =
     let start = c .before .before .before .before .before .before .before in

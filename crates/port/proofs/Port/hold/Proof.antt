@@ -4,30 +4,22 @@ use Rattle.port.proofs.Holding.{holds-more}
 use borrow.Author.Needs.{needs}
 use Rattle.port.proofs.Port.hold.Statement.{statement}
 use Rattle.port.proofs.Port.hold.Tie as tie
-use Rattle.port.proofs.Port.hold.Reads as reads
-use Rattle.port.proofs.Port.hold.Lts as lts
 
--- src/lib.rt:237:9
 mul-self : tie.Need-mul-self
 mul-self c = search needs
 
--- src/lib.rt:237:9
 element-write-self : tie.Need-element-write-self
 element-write-self c = search needs
 
--- src/lib.rt:238:9
 mul-self-2 : tie.Need-mul-self-2
 mul-self-2 c = search needs
 
--- src/lib.rt:238:9
 element-write-self-2 : tie.Need-element-write-self-2
 element-write-self-2 c = search needs
 
--- src/lib.rt:239:21
 add-self : tie.Need-add-self
 add-self c = search needs
 
--- src/lib.rt:230:5
 returns : tie.Need-returns
 returns c =
     let start = c .before in

@@ -4,7 +4,7 @@ use Prim.Native.Nat.{_≤_}
 use mathlib.Core.Path.{_≡_, refl, sym, _∙_}
 use mathlib.Core.Bool.{true}
 use native.Mathlib.Omega.{arith}
-use lib.ListN.{length, take, drop, length-take, length-map}
+use lib.ListN.{take, length-take}
 use lib.Dec.{eqb}
 use borrow.Author.Needs.{needs}
 use borrow.Author.Tests.{not-true, not-false, lt-leb, le-leb}
@@ -13,16 +13,10 @@ use Rattle.model.specs.Refusals.{valueOk, roomOk, betaOk}
 use Rattle.model.specs.Port.{all, risesFrom}
 use Rattle.port.specs.State.{stateOf}
 use Rattle.port.proofs.Tests.{all-behind}
+use Rattle.port.proofs.Whole.{values-whole, numbers-whole}
 use Rattle.port.proofs.Parts.{sound-is, room-fits}
 use Rattle.port.proofs.Port.is_sound.Statement.{statement}
 use Rattle.port.proofs.Port.is_sound.Tie as tie
-use Rattle.port.proofs.Port.is_sound.Reads as reads
-use Rattle.port.proofs.Port.is_sound.Lts as lts
-use Rattle.port.proofs.ranges.beta_ok.Reads as beta-ok-reads
-use Rattle.port.proofs.ranges.room_ok.Reads as room-ok-reads
-use Rattle.port.proofs.checks.all_zero.Reads as all-zero-reads
-use Rattle.port.proofs.checks.numbers_rise.Reads as numbers-rise-reads
-use Rattle.port.proofs.checks.values_ok.Reads as values-ok-reads
 
 -- what each test that was passed says
 room-passed : (c : tie.Else1) → roomOk (c .before .before .args .self .room) ≡ true
@@ -43,128 +37,97 @@ numbers-passed c = sym (c .before .numbers-rise .ensures) ∙ not-false _ (c .if
 held-inside : (c : tie.Else3) → c .before .before .before .before .before .before .args .self .held ≤ portLimits .room
 held-inside c = omega (arith, c .if3 .left, room-fits (c .before .before .before .before .before .before .args .self .room) (room-passed (c .before .before .before .before)))
 
-values-whole : (c : tie.Else3) → length (c .before .before .before .before .before .before .args .self .values) ≡ portLimits .room
-values-whole c = sym (length-map (c .before .before .before .before .before .before .args .self .values) _) ∙ c .before .before .before .before .before .before .good .0 .1 .1 .1 .1 .1 .1 .0 .1 .0 .1
-
-numbers-whole : (c : tie.Else3) → length (c .before .before .before .before .before .before .args .self .numbers) ≡ portLimits .room
-numbers-whole c = sym (length-map (c .before .before .before .before .before .before .args .self .numbers) _) ∙ c .before .before .before .before .before .before .good .0 .1 .1 .1 .1 .1 .1 .1 .0 .1 .0 .1
-
--- src/lib.rt:115:13
 room-ok-requires : tie.Need-room-ok-requires
 room-ok-requires c κs = search needs
 
--- src/lib.rt:116:13
 returns : tie.Need-returns
 returns c = sound-is (stateOf (c .before .before .args .self)) (sym (c .before .room-ok .ensures) ∙ not-true _ (c .if1 .taken)) refl refl refl refl refl refl
 
--- src/lib.rt:118:13
 beta-ok-requires : tie.Need-beta-ok-requires
 beta-ok-requires c κs = search needs
 
--- src/lib.rt:119:13
 returns-2 : tie.Need-returns-2
 returns-2 c = sound-is (stateOf (c .before .before .before .before .args .self)) (room-passed (c .before .before)) (sym (c .before .beta-ok .ensures) ∙ not-true _ (c .if2 .taken)) refl refl refl refl refl
 
--- src/lib.rt:122:13
 returns-3 : tie.Need-returns-3
 returns-3 c = sound-is (stateOf (c .before .before .before .before .before .before .args .self)) (room-passed (c .before .before .before .before)) (beta-passed (c .before .before)) (lt-leb _ _ (c .if3 .taken)) refl refl refl refl
 
--- src/lib.rt:126:23
 array-share-prefix-values : tie.Need-array-share-prefix-values
-array-share-prefix-values c = omega (arith, held-inside (c .before), values-whole (c .before))
+array-share-prefix-values c = omega (arith, held-inside (c .before), values-whole (c .before .before .before .before .before .before .before .args .self) (c .before .before .before .before .before .before .before .good .0))
 
--- src/lib.rt:126:23
 slice-aggregate-values-ok : tie.Need-slice-aggregate-values-ok
-slice-aggregate-values-ok c = simp length-take (omega (arith, held-inside (c .before .before), values-whole (c .before .before)))
+slice-aggregate-values-ok c = simp length-take (omega (arith, held-inside (c .before .before), values-whole (c .before .before .before .before .before .before .before .before .args .self) (c .before .before .before .before .before .before .before .before .good .0)))
 
--- src/lib.rt:126:13
 values-ok-requires : tie.Need-values-ok-requires
 values-ok-requires c κs = search needs
 
--- src/lib.rt:127:13
 returns-4 : tie.Need-returns-4
 returns-4 c =
     let fits = c .before .before .before .before in
     sound-is (stateOf (c .before .before .before .before .before .before .before .before .before .before .args .self)) (room-passed (fits .before .before .before .before)) (beta-passed (fits .before .before)) (le-leb _ _ (fits .if3 .left)) (sym (c .before .values-ok .ensures) ∙ not-true _ (c .if4 .taken)) refl refl refl
 
--- src/lib.rt:130:26
 array-share-prefix-numbers : tie.Need-array-share-prefix-numbers
-array-share-prefix-numbers c = omega (arith, held-inside (c .before .before .before .before .before), numbers-whole (c .before .before .before .before .before))
+array-share-prefix-numbers c = omega (arith, held-inside (c .before .before .before .before .before), numbers-whole (c .before .before .before .before .before .before .before .before .before .before .before .args .self) (c .before .before .before .before .before .before .before .before .before .before .before .good .0))
 
--- src/lib.rt:130:26
 slice-aggregate-numbers-rise : tie.Need-slice-aggregate-numbers-rise
-slice-aggregate-numbers-rise c = simp length-take (omega (arith, held-inside (c .before .before .before .before .before .before), numbers-whole (c .before .before .before .before .before .before)))
+slice-aggregate-numbers-rise c = simp length-take (omega (arith, held-inside (c .before .before .before .before .before .before), numbers-whole (c .before .before .before .before .before .before .before .before .before .before .before .before .args .self) (c .before .before .before .before .before .before .before .before .before .before .before .before .good .0)))
 
--- src/lib.rt:130:13
 numbers-rise-requires : tie.Need-numbers-rise-requires
 numbers-rise-requires c κs = search needs
 
--- src/lib.rt:131:13
 returns-5 : tie.Need-returns-5
 returns-5 c =
     let valued = c .before .before .before .before in
     let fits = valued .before .before .before .before in
     sound-is (stateOf (c .before .before .before .before .before .before .before .before .before .before .before .before .before .before .args .self)) (room-passed (fits .before .before .before .before)) (beta-passed (fits .before .before)) (le-leb _ _ (fits .if3 .left)) (values-passed valued) (sym (c .before .numbers-rise .ensures) ∙ not-true _ (c .if5 .taken)) refl refl
 
--- src/lib.rt:133:18
 mul-all-zero : tie.Need-mul-all-zero
 mul-all-zero c = omega (arith, held-inside (c .before .before .before .before .before .before .before .before))
 
--- src/lib.rt:133:18
 sub-all-zero : tie.Need-sub-all-zero
 sub-all-zero c = omega (arith, held-inside (c .before .before .before .before .before .before .before .before))
 
--- src/lib.rt:133:18
 part-all-zero-start : tie.Need-part-all-zero-start
 part-all-zero-start c = omega (arith, held-inside (c .before .before .before .before .before .before .before .before .before))
 
--- src/lib.rt:133:18
 part-all-zero-end : tie.Need-part-all-zero-end
-part-all-zero-end c = omega (arith, values-whole (c .before .before .before .before .before .before .before .before .before))
+part-all-zero-end c = omega (arith, values-whole (c .before .before .before .before .before .before .before .before .before .before .before .before .before .before .before .args .self) (c .before .before .before .before .before .before .before .before .before .before .before .before .before .before .before .good .0))
 
--- src/lib.rt:133:9
 all-zero-requires : tie.Need-all-zero-requires
 all-zero-requires c κs = search needs
 
--- src/lib.rt:133:47
 mul-all-zero-2 : tie.Need-mul-all-zero-2
 mul-all-zero-2 c = omega (arith, held-inside (c .before .before .before .before .before .before .before .before .before .before .before .before))
 
--- src/lib.rt:133:47
 sub-all-zero-2 : tie.Need-sub-all-zero-2
 sub-all-zero-2 c = omega (arith, held-inside (c .before .before .before .before .before .before .before .before .before .before .before .before))
 
--- src/lib.rt:133:47
 part-all-zero-start-2 : tie.Need-part-all-zero-start-2
 part-all-zero-start-2 c = omega (arith, held-inside (c .before .before .before .before .before .before .before .before .before .before .before .before .before))
 
--- src/lib.rt:133:47
 part-all-zero-end-2 : tie.Need-part-all-zero-end-2
-part-all-zero-end-2 c = omega (arith, numbers-whole (c .before .before .before .before .before .before .before .before .before .before .before .before .before))
+part-all-zero-end-2 c = omega (arith, numbers-whole (c .before .before .before .before .before .before .before .before .before .before .before .before .before .before .before .before .before .before .before .args .self) (c .before .before .before .before .before .before .before .before .before .before .before .before .before .before .before .before .before .before .before .good .0))
 
--- src/lib.rt:133:38
 all-zero-requires-2 : tie.Need-all-zero-requires-2
 all-zero-requires-2 c κs = search needs
 
--- src/lib.rt:112:5
 returns-6 : tie.Need-returns-6
 returns-6 c =
     let a = c .before .before .before .before .before .before .before .before .before .before .before .before .before .before .before .before .before .before .before .before .before .args in
     let risen = c .before .before .before .before .before .before .before in
     let valued = risen .before .before .before .before in
     let fits = valued .before .before .before .before in
-    let zero-values = sym (all-behind (a .self .values) (a .self .held) (eqb 0) _ (values-whole fits)) ∙ sym (c .before .before .before .before .all-zero .ensures) ∙ c .before .before .before .if6 .taken in
-    let zero-numbers = sym (all-behind (a .self .numbers) (a .self .held) (eqb 0) _ (numbers-whole fits)) ∙ sym (c .all-zero2 .ensures) in
+    let zero-values = sym (all-behind (a .self .values) (a .self .held) (eqb 0) _ (values-whole (fits .before .before .before .before .before .before .args .self) (fits .before .before .before .before .before .before .good .0))) ∙ sym (c .before .before .before .before .all-zero .ensures) ∙ c .before .before .before .if6 .taken in
+    let zero-numbers = sym (all-behind (a .self .numbers) (a .self .held) (eqb 0) _ (numbers-whole (fits .before .before .before .before .before .before .args .self) (fits .before .before .before .before .before .before .good .0))) ∙ sym (c .all-zero2 .ensures) in
     sound-is (stateOf (a .self)) (room-passed (fits .before .before .before .before)) (beta-passed (fits .before .before)) (le-leb _ _ (fits .if3 .left)) (values-passed valued) (numbers-passed risen) zero-values zero-numbers
 
--- src/lib.rt:112:5
 returns-7 : tie.Need-returns-7
 returns-7 c =
     let a = c .before .before .before .before .before .before .before .before .before .before .before .before .before .before .before .before .before .before .args in
     let risen = c .before .before .before .before in
     let valued = risen .before .before .before .before in
     let fits = valued .before .before .before .before in
-    let zero-values = sym (all-behind (a .self .values) (a .self .held) (eqb 0) _ (values-whole fits)) ∙ sym (c .before .all-zero .ensures) ∙ c .if6 .left in
+    let zero-values = sym (all-behind (a .self .values) (a .self .held) (eqb 0) _ (values-whole (fits .before .before .before .before .before .before .args .self) (fits .before .before .before .before .before .before .good .0))) ∙ sym (c .before .all-zero .ensures) ∙ c .if6 .left in
     c .if6 .left
     ∙ sound-is (stateOf (a .self)) (room-passed (fits .before .before .before .before)) (beta-passed (fits .before .before)) (le-leb _ _ (fits .if3 .left)) (values-passed valued) (numbers-passed risen) zero-values refl
 

@@ -3,42 +3,30 @@ use mathlib.Core.Path.{ap, sym, _∙_}
 use borrow.Author.Tests.{not-true, not-false}
 use Rattle.model.specs.Answers.{portSays}
 use Rattle.model.specs.Packets.{nobody}
-use Rattle.model.specs.Port.{PortState, PortOutcome}
+use Rattle.model.specs.Port.{PortState}
 use Rattle.port.proofs.Calls.{making-room, making-beta, making-done}
 use borrow.Author.Needs.{needs}
 use Rattle.port.proofs.Port.new.Statement.{statement}
 use Rattle.port.proofs.Port.new.Tie as tie
-use Rattle.port.proofs.Port.new.Reads as reads
-use Rattle.port.proofs.Port.new.Lts as lts
-use Rattle.port.proofs.empty.Reads as empty-reads
-use Rattle.port.proofs.ranges.beta_ok.Reads as beta-ok-reads
-use Rattle.port.proofs.ranges.room_ok.Reads as room-ok-reads
-use Rattle.port.proofs.unmade.Reads as unmade-reads
 
--- src/lib.rt:98:13
 room-ok-requires : tie.Need-room-ok-requires
 room-ok-requires c κs = search needs
 
--- src/lib.rt:99:13
 unmade-requires : tie.Need-unmade-requires
 unmade-requires c κs = search needs
 
--- src/lib.rt:99:13
 returns : tie.Need-returns
 returns c =
     let room = c .before .before .room-ok in
     let a = c .before .before .before .args in
     c .unmade .ensures ∙ making-room (a .room) (a .beta) (sym (room .ensures) ∙ not-true _ (c .before .if1 .taken))
 
--- src/lib.rt:101:13
 beta-ok-requires : tie.Need-beta-ok-requires
 beta-ok-requires c κs = search needs
 
--- src/lib.rt:102:13
 unmade-requires-2 : tie.Need-unmade-requires-2
 unmade-requires-2 c κs = search needs
 
--- src/lib.rt:102:13
 returns-2 : tie.Need-returns-2
 returns-2 c =
     let passed = c .before .before .before in
@@ -47,11 +35,9 @@ returns-2 c =
     ∙ making-beta (a .room) (a .beta) (sym (passed .before .room-ok .ensures) ∙ not-false _ (passed .if1 .left))
     (sym (c .before .before .beta-ok .ensures) ∙ not-true _ (c .before .if2 .taken))
 
--- src/lib.rt:105:19
 empty-requires : tie.Need-empty-requires
 empty-requires c κs = search needs
 
--- src/lib.rt:95:5
 returns-3 : tie.Need-returns-3
 returns-3 c =
     let passed = c .before .before .before in

@@ -1,39 +1,29 @@
 -- `port::Port::take` meets its contract: the same place is taken out of the values and of the numbers.
-use mathlib.Core.Path.{ap₂, sym, _∙_}
 use Rattle.port.specs.State.{stateOf}
 use Rattle.port.proofs.Holding.{values-fit, numbers-fit, holds-less, packet-at}
 use borrow.Author.Needs.{needs}
 use Rattle.port.proofs.Port.take.Statement.{statement}
 use Rattle.port.proofs.Port.take.Tie as tie
-use Rattle.port.proofs.Port.take.Reads as reads
-use Rattle.port.proofs.Port.take.Lts as lts
-use Rattle.port.proofs.places.take_out.Reads as take-out-reads
 
--- src/lib.rt:254:30
 slice-aggregate-take-out : tie.Need-slice-aggregate-take-out
 slice-aggregate-take-out c = search needs
 
--- src/lib.rt:254:13
 take-out-requires : tie.Need-take-out-requires
 take-out-requires c κs =
     let start = c .before .before .before in
     (start .pre .1 .1, values-fit (stateOf (start .args .self)) (start .pre .0) (start .pre .1 .0))
 
--- src/lib.rt:255:31
 slice-aggregate-take-out-2 : tie.Need-slice-aggregate-take-out-2
 slice-aggregate-take-out-2 c = search needs
 
--- src/lib.rt:255:13
 take-out-requires-2 : tie.Need-take-out-requires-2
 take-out-requires-2 c κs =
     let start = c .before .before .before .before .before .before in
     (start .pre .1 .1, numbers-fit (stateOf (start .args .self)) (start .pre .0) (start .pre .1 .0))
 
--- src/lib.rt:258:21
 sub-self : tie.Need-sub-self
 sub-self c = search needs
 
--- src/lib.rt:245:5
 returns : tie.Need-returns
 returns c =
     let start = c .before .before .before .before .before .before .before .before in

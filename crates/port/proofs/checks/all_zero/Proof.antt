@@ -8,8 +8,6 @@ use Rattle.model.specs.Port.{all}
 use Rattle.port.proofs.Tests.{all-turn, all-fails, all-done}
 use Rattle.port.proofs.checks.all_zero.Statement.{statement}
 use Rattle.port.proofs.checks.all_zero.Tie as tie
-use Rattle.port.proofs.checks.all_zero.Reads as reads
-use Rattle.port.proofs.checks.all_zero.Lts as lts
 
 abbrev Inv-loop : tie.InvT-loop
 Inv-loop places i₀ i = (i ≤ length places) × (all (eqb 0) (drop i places) ≡ all (eqb 0) places)
@@ -17,41 +15,33 @@ Inv-loop places i₀ i = (i ≤ length places) × (all (eqb 0) (drop i places) �
 abbrev μ-loop : tie.MeasureT-loop
 μ-loop places i₀ i = length places - i
 
--- src/checks.rt:47:5
 loop-holds : tie.Need-loop-holds Inv-loop μ-loop
 loop-holds c = (omega arith, refl)
 
--- src/checks.rt:48:12
 mul-if1 : tie.Need-mul-if1 Inv-loop μ-loop
 mul-if1 c = omega arith
 
--- src/checks.rt:48:12
 shared-slice-read-if1 : tie.Need-shared-slice-read-if1 Inv-loop μ-loop
 shared-slice-read-if1 c = omega arith
 
--- src/checks.rt:49:13
 returns : tie.Need-returns Inv-loop μ-loop
 returns c =
     let loop = c .before .before .before in
     let a = loop .before .args in
     sym (all-fails (a .places .now) (loop .loop .i) (eqb 0) (omega arith) (ne-eqb _ _ (λ e. c .if1 .taken (sym e)))) ∙ loop .loop .inv .1
 
--- src/checks.rt:51:9
 add-i : tie.Need-add-i Inv-loop μ-loop
 add-i c = omega arith
 
--- src/checks.rt:47:5
 loop-less : tie.Need-loop-less Inv-loop μ-loop
 loop-less c = omega arith
 
--- src/checks.rt:47:5
 loop-again : tie.Need-loop-again Inv-loop μ-loop
 loop-again c =
     let loop = c .before .before .before in
     let a = loop .before .args in
     (omega arith, all-turn (a .places .now) (loop .loop .i) (eqb 0) (omega arith) (eq-eqb _ _ (sym (c .if1 .left))) ∙ loop .loop .inv .1)
 
--- src/checks.rt:43:1
 returns-2 : tie.Need-returns-2 Inv-loop μ-loop
 returns-2 c =
     let loop = c .before in

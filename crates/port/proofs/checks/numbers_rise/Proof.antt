@@ -6,8 +6,6 @@ use Rattle.model.specs.Port.{risesFrom}
 use Rattle.port.proofs.Tests.{rises-turn, rises-not, rises-past, rises-done}
 use Rattle.port.proofs.checks.numbers_rise.Statement.{statement}
 use Rattle.port.proofs.checks.numbers_rise.Tie as tie
-use Rattle.port.proofs.checks.numbers_rise.Reads as reads
-use Rattle.port.proofs.checks.numbers_rise.Lts as lts
 
 abbrev Inv-loop : tie.InvT-loop
 Inv-loop numbers last before₀ i₀ before i = (i ≤ length numbers) × (risesFrom before last (drop i numbers) ≡ risesFrom 0 last numbers)
@@ -15,48 +13,39 @@ Inv-loop numbers last before₀ i₀ before i = (i ≤ length numbers) × (rises
 abbrev μ-loop : tie.MeasureT-loop
 μ-loop numbers last before₀ i₀ before i = length numbers - i
 
--- src/checks.rt:28:5
 loop-holds : tie.Need-loop-holds Inv-loop μ-loop
 loop-holds c = (omega arith, refl)
 
--- src/checks.rt:29:22
 mul-number : tie.Need-mul-number Inv-loop μ-loop
 mul-number c = omega arith
 
--- src/checks.rt:29:22
 shared-slice-read-number : tie.Need-shared-slice-read-number Inv-loop μ-loop
 shared-slice-read-number c = omega arith
 
--- src/checks.rt:31:13
 returns : tie.Need-returns Inv-loop μ-loop
 returns c =
     let loop = c .before .before .before in
     let a = loop .before .args in
     sym (rises-not (a .numbers .now) (loop .loop .i) (loop .loop .before) (a .last) (omega arith) (omega arith)) ∙ loop .loop .inv .1
 
--- src/checks.rt:34:13
 returns-2 : tie.Need-returns-2 Inv-loop μ-loop
 returns-2 c =
     let loop = c .before .before .before .before in
     let a = loop .before .args in
     sym (rises-past (a .numbers .now) (loop .loop .i) (loop .loop .before) (a .last) (omega arith) (omega arith) (omega arith)) ∙ loop .loop .inv .1
 
--- src/checks.rt:37:9
 add-i : tie.Need-add-i Inv-loop μ-loop
 add-i c = omega arith
 
--- src/checks.rt:28:5
 loop-less : tie.Need-loop-less Inv-loop μ-loop
 loop-less c = omega arith
 
--- src/checks.rt:28:5
 loop-again : tie.Need-loop-again Inv-loop μ-loop
 loop-again c =
     let loop = c .before .before .before .before in
     let a = loop .before .args in
     (omega arith, rises-turn (a .numbers .now) (loop .loop .i) (loop .loop .before) (a .last) (omega arith) (omega arith) (omega arith) ∙ loop .loop .inv .1)
 
--- src/checks.rt:23:1
 returns-3 : tie.Need-returns-3 Inv-loop μ-loop
 returns-3 c =
     let loop = c .before in

@@ -9,9 +9,6 @@ use Rattle.model.specs.Refusals.{valueOk}
 use Rattle.port.proofs.Tests.{all-turn, all-fails, all-done}
 use Rattle.port.proofs.checks.values_ok.Statement.{statement}
 use Rattle.port.proofs.checks.values_ok.Tie as tie
-use Rattle.port.proofs.checks.values_ok.Reads as reads
-use Rattle.port.proofs.checks.values_ok.Lts as lts
-use Rattle.port.proofs.ranges.value_ok.Reads as value-ok-reads
 
 abbrev Inv-loop : tie.InvT-loop
 Inv-loop values i₀ i = (i ≤ length values) × (all valueOk (drop i values) ≡ all valueOk values)
@@ -19,23 +16,18 @@ Inv-loop values i₀ i = (i ≤ length values) × (all valueOk (drop i values) �
 abbrev μ-loop : tie.MeasureT-loop
 μ-loop values i₀ i = length values - i
 
--- src/checks.rt:13:5
 loop-holds : tie.Need-loop-holds Inv-loop μ-loop
 loop-holds c = (omega arith, refl)
 
--- src/checks.rt:14:22
 mul-value-ok : tie.Need-mul-value-ok Inv-loop μ-loop
 mul-value-ok c = omega arith
 
--- src/checks.rt:14:22
 shared-slice-read-value-ok : tie.Need-shared-slice-read-value-ok Inv-loop μ-loop
 shared-slice-read-value-ok c = omega arith
 
--- src/checks.rt:14:13
 value-ok-requires : tie.Need-value-ok-requires Inv-loop μ-loop
 value-ok-requires c κs = search needs
 
--- src/checks.rt:15:13
 returns : tie.Need-returns Inv-loop μ-loop
 returns c =
     let tested = c .before .value-ok in
@@ -43,15 +35,12 @@ returns c =
     let a = loop .before .before .args in
     sym (all-fails (a .values .now) (loop .loop .i) valueOk (omega arith) (sym (tested .ensures) ∙ not-true _ (c .if1 .taken))) ∙ loop .loop .inv .1
 
--- src/checks.rt:17:9
 add-i : tie.Need-add-i Inv-loop μ-loop
 add-i c = omega arith
 
--- src/checks.rt:13:5
 loop-less : tie.Need-loop-less Inv-loop μ-loop
 loop-less c = omega arith
 
--- src/checks.rt:13:5
 loop-again : tie.Need-loop-again Inv-loop μ-loop
 loop-again c =
     let tested = c .before .value-ok in
@@ -59,7 +48,6 @@ loop-again c =
     let a = loop .before .before .args in
     (omega arith, all-turn (a .values .now) (loop .loop .i) valueOk (omega arith) (sym (tested .ensures) ∙ not-false _ (c .if1 .left)) ∙ loop .loop .inv .1)
 
--- src/checks.rt:9:1
 returns-2 : tie.Need-returns-2 Inv-loop μ-loop
 returns-2 c =
     let loop = c .before in
