@@ -10,11 +10,14 @@ use Rattle.model.specs.declared.Fate.the-variants.{Sent, Rejected, PushedOut, P
 use Rattle.model.specs.declared.PacketNumber.{PacketNumber}
 use Rattle.model.specs.declared.Slot.{Slot}
 use Rattle.model.specs.Record.{Row}
-use Rattle.model.specs.Rules.{Verdict, clear, orElse, verdictIf, hasFate, isLost, byWrong, whenWrong}
+use Rattle.model.specs.Totals.{mostHeldFrom}
+use Rattle.model.specs.Rules.{Verdict, Buffer, clear, firstFault, orElse, verdictIf, hasFate, isLost, byWrong, whenWrong}
 use Rattle.model.specs.Answers.{faultNumber}
 use Rattle.audit.specs.declared.Entry.{Entry}
 use Rattle.audit.specs.declared.Found.{Found}
 use Rattle.audit.specs.declared.Found.the-variants as found
+use Rattle.audit.specs.declared.Swept.{Swept}
+use Rattle.audit.specs.declared.Swept.the-variants as swept
 
 -- the slots never go down
 abbrev pub Rising : List ℕ → Type 0
@@ -51,3 +54,8 @@ entryFault slots last r =
 abbrev pub foundOf : Found → PacketNumber → Verdict
 foundOf found.Nothing n = clear
 foundOf (found.Fault f) n = record { number = faultNumber f; place = n .0 }
+
+-- what the sweep says of the rows: no fault and the most held, or the first fault
+abbrev pub SweptAs : Buffer → List Row → Swept → Type 0
+SweptAs buffer rows (swept.Clear most) = (firstFault buffer rows ≡ clear) × (mostHeldFrom [] rows ≡ most)
+SweptAs buffer rows (swept.Faulty f) = firstFault buffer rows ≡ record { number = faultNumber (f .fault); place = f .packet .0 }

@@ -1,16 +1,21 @@
 // The audit of anyone's record: the first fault against the buffer's rules, or the totals. What it answers stands in crate model.
 ghost use mathlib.Core.Path.{_≡_};
-ghost use mathlib.Core.Bool.{false};
-ghost use Prim.Native.Nat.{suc, _≤_, _<_};
+ghost use mathlib.Core.Bool.{false, cond};
+ghost use Prim.Native.Nat.{suc, _≤_, _<_, max};
 ghost use lib.ListN.{length};
-ghost use Rattle.model.specs.Packets.{slotOf};
+ghost use Rattle.model.specs.Packets.{slotOf, arrivals};
+ghost use Rattle.model.specs.Record.{rows};
+ghost use Rattle.model.specs.Refusals.{valueOk};
+ghost use Rattle.trace.specs.Checked.{listsOf};
+ghost use Rattle.trace.specs.Tested.{Tested};
 ghost use Rattle.model.specs.declared.Fate.the-variants as Fate;
 ghost use Rattle.model.specs.Limits.{within};
 ghost use Rattle.model.specs.Rules.{hasFate, byWrong, whenWrong};
-ghost use Rattle.audit.specs.Rows.{rowOf, Names};
-ghost use Rattle.audit.specs.Sweep.{Rising, upTo, leaveOf, lastOf, notAfter, entryFault, foundOf};
+ghost use Rattle.audit.specs.Rows.{rowOf, rowAt, Names, Reads, Place};
+ghost use Rattle.audit.specs.Sweep.{Rising, upTo, leaveOf, lastOf, notAfter, entryFault, foundOf, SweptAs};
 use model::Fate;
 use model::Fault;
+use model::FirstFault;
 use model::PacketNumber;
 use model::Record;
 use model::Slot;
@@ -35,6 +40,18 @@ struct Entry {
 enum Found {
     Nothing,
     Fault(Fault),
+}
+
+// What stands at a place: an entry, or a fate that is none.
+enum Read {
+    Entry(Entry),
+    Outside,
+}
+
+// What the sweep over all packets finds: no fault and the most held, or the first fault.
+enum Swept {
+    Clear(u32),
+    Faulty(FirstFault),
 }
 
 fn fate_of(number: u32) -> Named
@@ -166,4 +183,85 @@ fn fault_of(slots: &[u32], last: Slot, entry: Entry) -> Found
         return Found::Fault(Fault::NotLater);
     }
     Found::Nothing
+}
+
+fn entry_at(
+    slots: &[u32],
+    values: &[u32],
+    fates: &[u32],
+    whens: &[u32],
+    bys: &[u32],
+    i: usize,
+) -> Read
+    requires { ⌜ Place (now slots) (now values) (listsOf (now fates) (now whens) (now bys)) i ⌝ }
+    ensures { λ r. ⌜ Reads (rowAt (now (slots .entry)) (now (values .entry)) (listsOf (now (fates .entry)) (now (whens .entry)) (now (bys .entry))) i) r ⌝ }
+{
+    let Named::Fate(fate) = fate_of(fates[i]) else {
+        return Read::Outside;
+    };
+    Read::Entry(Entry {
+        number: PacketNumber(i as u32 + 1),
+        slot: Slot(slots[i]),
+        value: values[i],
+        fate,
+        when: Slot(whens[i]),
+        by: PacketNumber(bys[i]),
+    })
+}
+
+fn one_if(test: bool) -> u32
+    ensures { λ r. ⌜ r ≡ cond test 1 0 ⌝ }
+{
+    if test { 1 } else { 0 }
+}
+
+fn greater(a: u32, b: u32) -> u32
+    ensures { λ r. ⌜ r ≡ max a b ⌝ }
+{
+    if a < b { b } else { a }
+}
+
+// One sweep over the packets. leaving[k] counts the packets passed that are held no more from the arrival at place k on.
+fn sweep(
+    slots: &[u32],
+    values: &[u32],
+    room: usize,
+    fates: &[u32],
+    whens: &[u32],
+    bys: &[u32],
+) -> Swept
+    requires { ⌜ Tested valueOk (now slots) (now values) room (listsOf (now fates) (now whens) (now bys)) ⌝ }
+    ensures { λ r. ⌜ SweptAs (record { slots = now (slots .entry); room = room }) (rows (arrivals (now (slots .entry)) (now (values .entry))) (listsOf (now (fates .entry)) (now (whens .entry)) (now (bys .entry)))) r ⌝ }
+{
+    let mut leaving = [0u32; Record::PACKETS + 1];
+    let mut held: u32 = 0;
+    let mut most: u32 = 0;
+    let mut last = Slot(0);
+    let mut i = 0;
+    while i < slots.len() {
+        let packet = PacketNumber(i as u32 + 1);
+        let Read::Entry(entry) = entry_at(slots, values, fates, whens, bys, i) else {
+            return Swept::Faulty(FirstFault {
+                fault: Fault::FateOutside,
+                packet,
+            });
+        };
+        if let Found::Fault(fault) = fault_of(slots, last, entry) {
+            return Swept::Faulty(FirstFault { fault, packet });
+        }
+        last = last_of(last, entry);
+        let leave = leave_of(slots, entry);
+        let stays = one_if(i < leave);
+        held = held - leaving[i] + stays;
+        leaving[leave] += stays;
+        if room < held as usize {
+            return Swept::Faulty(FirstFault {
+                fault: Fault::OverRoom,
+                packet,
+            });
+        }
+        most = greater(most, held);
+        i += 1;
+    }
+    Swept::Clear(most)
 }
