@@ -217,16 +217,18 @@ module _ (slots values : List ℕ) (room : ℕ) (lists : Lists) (i held most : �
       where
         go : (b : Bool) → eqb k (leaveOf slots this) ≡ b → (s : Bool) → ltb i (leaveOf slots this) ≡ s → getD leavingThen k 0 ≤ suc i
         go true e true d =
-            rw
-            (eqb-true k (leaveOf slots this) e,
-            d,
-            getD-set-same leaving (leaveOf slots this) (getD leaving (leaveOf slots this) 0 + 1) 0 leave-in)
+            rw (
+              eqb-true k (leaveOf slots this) e,
+              d,
+              getD-set-same leaving (leaveOf slots this) (getD leaving (leaveOf slots this) 0 + 1) 0 leave-in,
+            )
             (omega (arith, kept .small (leaveOf slots this)))
         go true e false d =
-            rw
-            (eqb-true k (leaveOf slots this) e,
-            d,
-            getD-set-same leaving (leaveOf slots this) (getD leaving (leaveOf slots this) 0 + 0) 0 leave-in)
+            rw (
+              eqb-true k (leaveOf slots this) e,
+              d,
+              getD-set-same leaving (leaveOf slots this) (getD leaving (leaveOf slots this) 0 + 0) 0 leave-in,
+            )
             (omega (arith, kept .small (leaveOf slots this)))
         go false e s d =
             rw (getD-set-other leaving (leaveOf slots this) k _ 0 (eqb-false k (leaveOf slots this) e)) (omega (arith, kept .small k))
@@ -240,11 +242,12 @@ module _ (slots values : List ℕ) (room : ℕ) (lists : Lists) (i held most : �
     most-then : max (max most heldThen) (mostHeldFrom (this ∷ passed) (rest slots values lists (suc i))) ≡ mostHeldFrom [] (rest slots values lists 0)
     unfolding mostHeldFrom
     most-then =
-        omega
-        (arith,
-        held-after,
-        kept .most-held,
-        ap (λ (x : List Row). mostHeldFrom passed x) (rest-cons slots values room lists t i h))
+        omega (
+          arith,
+          held-after,
+          kept .most-held,
+          ap (λ (x : List Row). mostHeldFrom passed x) (rest-cons slots values room lists t i h),
+        )
 
     faults-then : firstFaultFrom (bufferOf slots room) (this ∷ passed) (rest slots values lists (suc i)) ≡ whole
     unfolding older orElse
@@ -272,8 +275,7 @@ pub kept-end : (slots values : List ℕ) (room : ℕ) (lists : Lists) (i held mo
     → (firstFaultFrom (bufferOf slots room) [] (rest slots values lists 0) ≡ clear) × (mostHeldFrom [] (rest slots values lists 0) ≡ most)
 unfolding firstFaultFrom mostHeldFrom
 kept-end slots values room lists i held most last leaving kept h =
-    let none = rest-none slots values lists i h in
-    (
+    let none = rest-none slots values lists i h in (
       sym (kept .faults) ∙ ap (λ (x : List Row). firstFaultFrom (bufferOf slots room) (older slots values lists i) x) none,
       omega (arith, kept .most-held, ap (λ (x : List Row). mostHeldFrom (older slots values lists i) x) none),
     )
