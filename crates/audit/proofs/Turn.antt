@@ -2,7 +2,7 @@
 use Prim.Native.Nat.{ℕ, suc, _+_, _-_, _≤_, _<_, max}
 use native.Mathlib.Omega.{arith}
 use mathlib.Core.Path.{_≡_, refl, sym, ap, _∙_}
-use mathlib.Core.Bool.{Bool, true, false, cond}
+use mathlib.Core.Bool.{false, cond}
 use mathlib.Core.List.{List, []}
 use lib.ListN.{length, getD, set}
 use lib.Dec.{ltb}
@@ -16,6 +16,7 @@ use Rattle.model.specs.Answers.{faultNumber}
 use Rattle.trace.specs.Tested.{Tested}
 use Rattle.audit.specs.Rows.{rowAt}
 use Rattle.audit.specs.Sweep.{leaveOf, lastOf, entryFault}
+use Rattle.audit.proofs.Counts.{only-le}
 use Rattle.audit.proofs.Faults.{first-clear}
 use Rattle.audit.proofs.Held.{leave-le}
 use Rattle.audit.proofs.Kept as laws
@@ -57,11 +58,7 @@ module _ {slots values : List ℕ} {room : ℕ} {lists : Lists} {i held most : �
     leave-in = omega (arith, leave-is, leave-le f slots r (t .fate-is) (by-right clear-here), t .kept .places, t .tested .few)
 
     pub stays-le : stays ≤ 1
-    stays-le = rw stays-is (go (ltb i leave))
-      where
-        go : (b : Bool) → cond b 1 0 ≤ 1
-        go true = omega arith
-        go false = omega arith
+    stays-le = rw stays-is (only-le (ltb i leave) 1)
 
     clear-at : entryFault slots (last .0) (rowAt slots values lists i) ≡ clear
     clear-at = rw (t .row-is) at clear-here

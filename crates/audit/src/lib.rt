@@ -7,18 +7,25 @@ ghost use Rattle.model.specs.Packets.{slotOf, arrivals};
 ghost use Rattle.model.specs.Record.{rows};
 ghost use Rattle.model.specs.Refusals.{valueOk};
 ghost use Rattle.trace.specs.Checked.{listsOf};
+ghost use Rattle.model.specs.Answers.{ofAudit};
+ghost use Rattle.model.specs.Calls.{auditCall};
 ghost use Rattle.trace.specs.Tested.{Tested};
+ghost use Rattle.audit.specs.Tallies.{countsFate, tallyIn, totalsIn, Tallied};
 ghost use Rattle.model.specs.declared.Fate.the-variants as Fate;
 ghost use Rattle.model.specs.Limits.{within};
 ghost use Rattle.model.specs.Rules.{hasFate, byWrong, whenWrong};
 ghost use Rattle.audit.specs.Rows.{rowOf, rowAt, Names, Reads, Place};
 ghost use Rattle.audit.specs.Sweep.{Rising, upTo, leaveOf, lastOf, notAfter, entryFault, foundOf, SweptAs};
+use model::AuditAnswer;
 use model::Fate;
 use model::Fault;
 use model::FirstFault;
 use model::PacketNumber;
 use model::Record;
 use model::Slot;
+use model::Tally;
+use model::Totals;
+use trace::Checked;
 
 // What a record's number of a fate names.
 enum Named {
@@ -52,6 +59,12 @@ enum Read {
 enum Swept {
     Clear(u32),
     Faulty(FirstFault),
+}
+
+// Which packets a tally counts.
+enum Counted {
+    Every,
+    Of(Fate),
 }
 
 fn fate_of(number: u32) -> Named
@@ -209,10 +222,10 @@ fn entry_at(
     })
 }
 
-fn one_if(test: bool) -> u32
-    ensures { λ r. ⌜ r ≡ cond test 1 0 ⌝ }
+fn only_if(test: bool, n: u32) -> u32
+    ensures { λ r. ⌜ r ≡ cond test n 0 ⌝ }
 {
-    if test { 1 } else { 0 }
+    if test { n } else { 0 }
 }
 
 fn greater(a: u32, b: u32) -> u32
@@ -251,7 +264,7 @@ fn sweep(
         }
         last = last_of(last, entry);
         let leave = leave_of(slots, entry);
-        let stays = one_if(i < leave);
+        let stays = only_if(i < leave, 1);
         held = held - leaving[i] + stays;
         leaving[leave] += stays;
         if room < held as usize {
@@ -264,4 +277,70 @@ fn sweep(
         i += 1;
     }
     Swept::Clear(most)
+}
+
+fn is_counted(which: Counted, fate: u32) -> bool
+    ensures { λ r. ⌜ r ≡ countsFate which fate ⌝ }
+{
+    match which {
+        Counted::Every => true,
+        Counted::Of(known) => fate == known.number(),
+    }
+}
+
+fn tally_of(values: &[u32], fates: &[u32], which: Counted) -> Tally
+    requires { ⌜ Tallied (now values) (now fates) ⌝ }
+    ensures { λ r. ⌜ r ≡ tallyIn which (now (values .entry)) (now (fates .entry)) ⌝ }
+{
+    let mut count: u32 = 0;
+    let mut value: u32 = 0;
+    let mut i = 0;
+    while i < values.len() {
+        let counted = is_counted(which, fates[i]);
+        count += only_if(counted, 1);
+        value += only_if(counted, values[i]);
+        i += 1;
+    }
+    Tally { count, value }
+}
+
+fn totals_of(values: &[u32], fates: &[u32], most: u32) -> Totals
+    requires { ⌜ Tallied (now values) (now fates) ⌝ }
+    ensures { λ r. ⌜ r ≡ totalsIn (now (values .entry)) (now (fates .entry)) most ⌝ }
+{
+    let arrived = tally_of(values, fates, Counted::Every);
+    let sent = tally_of(values, fates, Counted::Of(Fate::Sent));
+    let rejected = tally_of(values, fates, Counted::Of(Fate::Rejected));
+    let pushed_out = tally_of(values, fates, Counted::Of(Fate::PushedOut));
+    let preempted = tally_of(values, fates, Counted::Of(Fate::Preempted));
+    let flushed = tally_of(values, fates, Counted::Of(Fate::Flushed));
+    Totals {
+        arrived,
+        sent,
+        rejected,
+        pushed_out,
+        preempted,
+        flushed,
+        most_held: most,
+    }
+}
+
+// The audit of a record: refusals 1, 2, 3, 5 and 6, then the first fault, else the totals.
+pub fn audit(
+    slots: &[u32],
+    values: &[u32],
+    room: usize,
+    fates: &[u32],
+    whens: &[u32],
+    bys: &[u32],
+) -> AuditAnswer
+    ensures { λ r. ⌜ ofAudit r ≡ auditCall (now (slots .entry)) (now (values .entry)) room (listsOf (now (fates .entry)) (now (whens .entry)) (now (bys .entry))) ⌝ }
+{
+    if let Checked::Refused(refusal) = trace::plain(slots, values, room, fates, whens, bys) {
+        return AuditAnswer::Refused(refusal);
+    }
+    match sweep(slots, values, room, fates, whens, bys) {
+        Swept::Clear(most) => AuditAnswer::Passed(totals_of(values, fates, most)),
+        Swept::Faulty(fault) => AuditAnswer::Faulty(fault),
+    }
 }

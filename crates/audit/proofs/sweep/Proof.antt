@@ -67,17 +67,17 @@ clear-here c =
     sym (c .before .before .fault-of .ensures) ∙ ap (λ (x : Found). foundOf x (entry (found c) .number)) (c .enum-told2 .given .1)
 
 -- where it is known how long it stays
-abbrev clear-at : tie.After-one-if Inv-loop μ-loop → tie.After-enum-told2 Inv-loop μ-loop
+abbrev clear-at : tie.After-only-if Inv-loop μ-loop → tie.After-enum-told2 Inv-loop μ-loop
 clear-at c = c .before .before .before
 
-abbrev place : tie.After-one-if Inv-loop μ-loop → ℕ
+abbrev place : tie.After-only-if Inv-loop μ-loop → ℕ
 place c = c .before .leave-of .result
 
-leave-in : (c : tie.After-one-if Inv-loop μ-loop) → c .before .leave-of .result < length (head (found (clear-at c)) .loop .leaving)
-leave-in c = turn.leave-in (at-turn (found (clear-at c))) (clear-here (clear-at c)) (c .before .leave-of .ensures) (c .one-if .ensures)
+leave-in : (c : tie.After-only-if Inv-loop μ-loop) → c .before .leave-of .result < length (head (found (clear-at c)) .loop .leaving)
+leave-in c = turn.leave-in (at-turn (found (clear-at c))) (clear-here (clear-at c)) (c .before .leave-of .ensures) (c .only-if .ensures)
 
-stays-le : (c : tie.After-one-if Inv-loop μ-loop) → c .one-if .result ≤ 1
-stays-le c = turn.stays-le (at-turn (found (clear-at c))) (clear-here (clear-at c)) (c .before .leave-of .ensures) (c .one-if .ensures)
+stays-le : (c : tie.After-only-if Inv-loop μ-loop) → c .only-if .result ≤ 1
+stays-le c = turn.stays-le (at-turn (found (clear-at c))) (clear-here (clear-at c)) (c .before .leave-of .ensures) (c .only-if .ensures)
 
 loop-holds : tie.Need-loop-holds Inv-loop μ-loop
 loop-holds c =
@@ -145,8 +145,8 @@ leave-of-requires c κs = (
   turn.by-right (at-turn (found (c .before))) (clear-here (c .before)),
 )
 
-one-if-requires : tie.Need-one-if-requires Inv-loop μ-loop
-one-if-requires c κs = search needs
+only-if-requires : tie.Need-only-if-requires Inv-loop μ-loop
+only-if-requires c κs = search needs
 
 mul-held : tie.Need-mul-held Inv-loop μ-loop
 mul-held c = omega (arith, start (head (found (clear-at c))) .pre .few)
@@ -180,7 +180,7 @@ cast-if1 c = omega (arith, stays-le c, turn.held-le (at-turn (found (clear-at c)
 returns-3 : tie.Need-returns-3 Inv-loop μ-loop
 returns-3 c =
     let at = c .before in
-    turn.on-over (at-turn (found (clear-at at))) (clear-here (clear-at at)) (at .before .leave-of .ensures) (at .one-if .ensures) (c .if1 .taken)
+    turn.on-over (at-turn (found (clear-at at))) (clear-here (clear-at at)) (at .before .leave-of .ensures) (at .only-if .ensures) (c .if1 .taken)
 
 greater-requires : tie.Need-greater-requires Inv-loop μ-loop
 greater-requires c κs = search needs
@@ -196,7 +196,7 @@ loop-less c = omega arith
 loop-again : tie.Need-loop-again Inv-loop μ-loop
 loop-again c =
     let at = c .before .before in
-    turn.on-clear (at-turn (found (clear-at at))) (clear-here (clear-at at)) (at .before .leave-of .ensures) (at .one-if .ensures) (c .before .if1 .left) (c .greater .ensures) (at .before .before .last-of .ensures)
+    turn.on-clear (at-turn (found (clear-at at))) (clear-here (clear-at at)) (at .before .leave-of .ensures) (at .only-if .ensures) (c .before .if1 .left) (c .greater .ensures) (at .before .before .last-of .ensures)
 
 returns-4 : tie.Need-returns-4 Inv-loop μ-loop
 returns-4 c =
@@ -224,7 +224,7 @@ sweep-spec =
     enum-told-2
     last-of-requires
     leave-of-requires
-    one-if-requires
+    only-if-requires
     mul-held
     array-read-held
     sub-held
