@@ -7,3 +7,4 @@ pub mod Faults
 pub mod Kept
 pub mod Turn
 pub mod Tallies
+pub mod Answer

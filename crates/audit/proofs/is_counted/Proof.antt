@@ -1,28 +1,20 @@
 -- `audit::is_counted` meets its contract: in each arm it is known which packets are counted.
 use borrow.Author.Needs.{needs}
-use Rattle.audit.proofs.is_counted.Statement.{statement}
 use Rattle.audit.proofs.is_counted.Tie as tie
-use Rattle.audit.proofs.is_counted.Reads as reads
-use Rattle.audit.proofs.is_counted.Lts as lts
-use Rattle.model.proofs.Fate.number.Reads as number-reads
+use Rattle.audit.proofs.is_counted.Statement.{statement}
 
--- src/lib.rt:286:27
 enum-told : tie.Need-enum-told
 enum-told c = search needs
 
--- src/lib.rt:287:21
 enum-known-which : tie.Need-enum-known-which
 enum-known-which c = search needs
 
--- src/lib.rt:287:39
 number-requires : tie.Need-number-requires
 number-requires c κs = search needs
 
--- src/lib.rt:282:1
 returns : tie.Need-returns
 returns c = search needs
 
--- src/lib.rt:282:1
 returns-2 : tie.Need-returns-2
 returns-2 c = rw (c .before .before .which .given .1, c .number .ensures)
 

@@ -1,25 +1,25 @@
 -- `audit::sweep` meets its contract. The loop's invariant is what Kept says of the packets passed; each way through a turn is one of the laws of Turn.
 use mathlib.Core.Bool.{true}
-use mathlib.Core.Path.{_≡_, refl, sym, ap, subst, _∙_}
 use Prim.Native.Nat.{ℕ, _+_, _-_, _≤_, _<_}
 use borrow.Author.Needs.{needs}
+use native.Mathlib.Omega.{arith}
 use native.Mathlib.Numerals.{add-one}
 use lib.ListN.{length, getD, length-set}
-use native.Mathlib.Omega.{arith}
+use mathlib.Core.Path.{_≡_, refl, sym, ap, subst, _∙_}
 use Rattle.audit.specs.Rows.{rowOf, rowAt, Reads}
-use Rattle.model.specs.Record.{Lists, Row}
-use Rattle.audit.specs.declared.Entry.{Entry}
-use Rattle.trace.specs.Checked.{listsOf}
-use Rattle.audit.proofs.sweep.Statement.{statement}
 use Rattle.audit.specs.Sweep.{foundOf, entryFault}
-use Rattle.audit.specs.declared.Found.{Found}
-use Rattle.model.specs.Rules.{clear, verdictIf}
+use Rattle.model.specs.Record.{Lists, Row}
 use Rattle.audit.proofs.Kept.{Kept, kept-start, kept-end, turn-outside}
-use Rattle.audit.proofs.sweep.Tie as tie
-use Rattle.audit.proofs.Turn.{Turn}
-use Rattle.audit.proofs.Turn as turn
+use Rattle.audit.specs.declared.Found.{Found}
 use Rattle.model.specs.Answers.{faultNumber}
 use Rattle.audit.specs.declared.Read.{Read}
+use Rattle.trace.specs.Checked.{listsOf}
+use Rattle.model.specs.Rules.{clear, verdictIf}
+use Rattle.audit.specs.declared.Entry.{Entry}
+use Rattle.audit.proofs.Turn as turn
+use Rattle.audit.proofs.sweep.Tie as tie
+use Rattle.audit.proofs.sweep.Statement.{statement}
+use Rattle.audit.proofs.Turn.{Turn}
 
 abbrev Inv-loop : tie.InvT-loop
 Inv-loop slots values room fates whens bys leaving₀ held₀ most₀ last₀ i₀ leaving held most last i =

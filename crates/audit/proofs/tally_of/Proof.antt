@@ -2,14 +2,14 @@
 -- number of packets passed, so they fit.
 use Prim.Native.Nat.{_-_, _≤_}
 use mathlib.Core.Path.{_≡_}
-use native.Mathlib.Omega.{arith}
 use borrow.Author.Needs.{needs}
+use native.Mathlib.Omega.{arith}
 use lib.ListN.{length, getD}
-use Rattle.model.specs.Limits.{recordLimits}
-use Rattle.audit.proofs.Counts.{only-le}
-use Rattle.audit.proofs.Tallies.{SoFar, so-far-start, so-far-more, so-far-end}
 use Rattle.audit.proofs.tally_of.Statement.{statement}
+use Rattle.audit.proofs.Tallies.{SoFar, so-far-start, so-far-more, so-far-end}
+use Rattle.audit.proofs.Counts.{only-le}
 use Rattle.audit.proofs.tally_of.Tie as tie
+use Rattle.model.specs.Limits.{recordLimits}
 
 abbrev Inv-loop : tie.InvT-loop
 Inv-loop values fates which count₀ value₀ i₀ count value i = SoFar values fates which count value i
@@ -31,10 +31,11 @@ worth-le c =
     let l = at-loop (c .before .before) in
     let v = getD (start l .args .values .now) (l .loop .i) 0 in
     rw (c .only-if2 .ensures)
-    (omega
-    (arith,
-    only-le (c .before .before .before .is-counted .result) v,
-    start l .pre .bounded (l .loop .i) (c .before .before .before .before .before .loop-test .taken)))
+    (omega (
+      arith,
+      only-le (c .before .before .before .is-counted .result) v,
+      start l .pre .bounded (l .loop .i) (c .before .before .before .before .before .loop-test .taken),
+    ))
 
 loop-holds : tie.Need-loop-holds Inv-loop μ-loop
 loop-holds c = so-far-start (c .before .before .args .values .now) (c .before .before .args .fates .now) (c .before .before .args .which)
