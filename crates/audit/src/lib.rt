@@ -189,10 +189,12 @@ fn fault_of(slots: &[u32], last: Slot, entry: Entry) -> Found
     if by_wrong(slots.len(), entry) {
         return Found::Fault(Fault::ByWrong);
     }
-    if when_wrong(slots, entry) {
+    let wrong = when_wrong(slots, entry);
+    let late = not_later(last, entry);
+    if wrong {
         return Found::Fault(Fault::WhenWrong);
     }
-    if not_later(last, entry) {
+    if late {
         return Found::Fault(Fault::NotLater);
     }
     Found::Nothing

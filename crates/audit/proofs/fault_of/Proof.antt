@@ -1,9 +1,9 @@
 -- `audit::fault_of` meets its contract: the first test that holds is the first of `entryFault`.
+use mathlib.Core.Path.{sym, _∙_}
 use borrow.Author.Needs.{needs}
-use mathlib.Core.Path.{_≡_, sym, ap, _∙_}
-use Rattle.audit.proofs.fault_of.Tie as tie
-use Rattle.audit.proofs.fault_of.Statement.{statement}
 use Rattle.model.specs.Rules.{orElse}
+use Rattle.audit.proofs.fault_of.Statement.{statement}
+use Rattle.audit.proofs.fault_of.Tie as tie
 
 by-wrong-requires : tie.Need-by-wrong-requires
 by-wrong-requires c κs = search needs
@@ -15,37 +15,47 @@ returns c = rw (← c .before .by-wrong .ensures, c .if1 .taken)
 when-wrong-requires : tie.Need-when-wrong-requires
 when-wrong-requires c κs = sym (c .before .by-wrong .ensures) ∙ c .if1 .left
 
+not-later-requires : tie.Need-not-later-requires
+not-later-requires c κs = search needs
+
 returns-2 : tie.Need-returns-2
 unfolding orElse
 returns-2 c =
-    let first = c .before .before in
-    rw (← first .before .by-wrong .ensures, first .if1 .left, ← c .before .when-wrong .ensures, c .if2 .taken)
-
-not-later-requires : tie.Need-not-later-requires
-not-later-requires c κs = search needs
+    let tests = c .before .before in
+    let first = tests .before in
+    rw (← first .before .by-wrong .ensures, first .if1 .left, ← tests .when-wrong .ensures, c .if2 .taken)
 
 returns-3 : tie.Need-returns-3
 unfolding orElse
 returns-3 c =
-    let second = c .before .before in
-    let first = second .before .before in
-    rw (← first .before .by-wrong .ensures, first .if1 .left, ← second .before .when-wrong .ensures, second .if2 .left, ← c .before .not-later .ensures, c .if3 .taken)
+    let second = c .before in
+    let tests = second .before .before in
+    let first = tests .before in
+    rw (
+      ← first .before .by-wrong .ensures,
+      first .if1 .left,
+      ← tests .when-wrong .ensures,
+      second .if2 .left,
+      ← second .before .not-later .ensures,
+      c .if3 .taken,
+    )
 
 returns-4 : tie.Need-returns-4
 unfolding orElse
 returns-4 c =
-    let second = c .before .before in
-    let first = second .before .before in
-    rw (← first .before .by-wrong .ensures, first .if1 .left, ← second .before .when-wrong .ensures, second .if2 .left, ← c .before .not-later .ensures, c .if3 .left)
+    let second = c .before in
+    let tests = second .before .before in
+    let first = tests .before in
+    rw (
+      ← first .before .by-wrong .ensures,
+      first .if1 .left,
+      ← tests .when-wrong .ensures,
+      second .if2 .left,
+      ← second .before .not-later .ensures,
+      c .if3 .left,
+    )
 
 pub fault-of-spec : {M : Type 1} → statement M
 fault-of-spec =
     tie.close
-    (tie.spec
-    by-wrong-requires
-    returns
-    when-wrong-requires
-    returns-2
-    not-later-requires
-    returns-3
-    returns-4)
+    (tie.spec by-wrong-requires returns when-wrong-requires not-later-requires returns-2 returns-3 returns-4)
