@@ -15,7 +15,7 @@ use Rattle.model.specs.Record.{Lists}
 use Rattle.model.specs.Rules.{Verdict, clear, orElse, verdictIf}
 use Rattle.model.specs.Refusals.{slotOk, unless, roomOk, packetRefusal, packetRefusalFrom, lengthsRefusal, packetsRefusal, roomRefusal, traceRefusal}
 use Rattle.trace.proofs.Laws.{left-part, right-part, values-length}
-use Rattle.trace.specs.Checked.{slotAt, lengthsEqual}
+use Rattle.trace.specs.Checked.{lengthsEqual}
 use Rattle.trace.specs.Tested.{Packets, Tested}
 
 -- both of two verdicts are clear
@@ -51,7 +51,7 @@ record Walked (ok : ℕ → Bool) (before : ℕ) (slots values : List ℕ) : Typ
   above : (k : ℕ) → k < length slots → before ≤ getD slots k 0
 
 walked : (ok : ℕ → Bool) (before n : ℕ) (slots values : List ℕ) → length values ≡ length slots
-    → packetRefusalFrom ok (slotAt before) (arrivalsFrom n slots values) .number ≡ 0 → Walked ok before slots values
+    → packetRefusalFrom ok (record { 0 = before }) (arrivalsFrom n slots values) .number ≡ 0 → Walked ok before slots values
 unfolding packetRefusalFrom arrivalsFrom
 walked ok before n [] values l e =
     record {
@@ -67,7 +67,7 @@ walked ok before n (s ∷ slots) [] l e = absurd (omega arith)
 walked ok before n (s ∷ slots) (v ∷ values) l e =
     let here = both _ _ e in
     let next = both _ _ (here .other) in
-    let fits : slotOk (slotAt before) (slotAt s) ≡ true = shut-out _ 4 n (here .one) in
+    let fits : slotOk (record { 0 = before }) (record { 0 = s }) ≡ true = shut-out _ 4 n (here .one) in
     let ranges : within 1 (recordLimits .slot) s ≡ true = left-part _ _ fits in
     let rest = walked ok s (suc n) slots values (omega arith) (next .other) in
     let low : before ≤ s = leb-true _ _ (right-part (within 1 (recordLimits .slot) s) _ fits) in

@@ -28,16 +28,16 @@ start c = c .before .before .before
 this-turn : (c : tie.After-value-taken Inv-loop μ-loop) → let a = start (at-loop c) .args in
     Turn (okOf (a .taken)) (a .slots .now) (a .values .now) (at-loop c .loop .before) (at-loop c .loop .i) (c .before .before .slot-ok .result) (c .value-taken .result)
 this-turn c =
-    turn _ _ _ _ _ (start (at-loop c) .pre .lengths) (c .before .before .before .before .loop-test .taken) (c .before .before .slot-ok .ensures) (c .value-taken .ensures)
+    turn _ _ _ _ _ (start (at-loop c) .pre .equal) (c .before .before .before .before .loop-test .taken) (c .before .before .slot-ok .ensures) (c .value-taken .ensures)
 
 loop-holds : tie.Need-loop-holds Inv-loop μ-loop
 loop-holds c = (omega arith, refl)
 
-mul-slot : tie.Need-mul-slot Inv-loop μ-loop
-mul-slot c = omega arith
+mul-place : tie.Need-mul-place Inv-loop μ-loop
+mul-place c = omega arith
 
-shared-slice-read-slot : tie.Need-shared-slice-read-slot Inv-loop μ-loop
-shared-slice-read-slot c = omega arith
+shared-slice-read-place : tie.Need-shared-slice-read-place Inv-loop μ-loop
+shared-slice-read-place c = omega arith
 
 cast-place : tie.Need-cast-place Inv-loop μ-loop
 cast-place c = omega arith
@@ -91,8 +91,8 @@ packets-spec =
     Inv-loop
     μ-loop
     loop-holds
-    mul-slot
-    shared-slice-read-slot
+    mul-place
+    shared-slice-read-place
     cast-place
     add-place
     slot-ok-requires
