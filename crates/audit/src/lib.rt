@@ -1,19 +1,19 @@
 // The audit of anyone's record: the first fault against the buffer's rules, or the totals. What it answers stands in crate model.
 ghost use mathlib.Core.Path.{_≡_};
 ghost use mathlib.Core.Bool.{false, cond};
-ghost use Prim.Native.Nat.{suc, _≤_, _<_, max};
+ghost use Prim.Native.Nat.{suc, _+_, _≤_, _<_, max};
 ghost use lib.ListN.{length};
 ghost use Rattle.model.specs.Packets.{slotOf, arrivals};
 ghost use Rattle.model.specs.Record.{rows};
 ghost use Rattle.model.specs.Refusals.{valueOk};
-ghost use Rattle.trace.specs.Checked.{listsOf};
 ghost use Rattle.model.specs.Answers.{ofAudit};
 ghost use Rattle.model.specs.Calls.{auditCall};
+ghost use Rattle.model.specs.declared.Fate.the-variants as Fate;
+ghost use Rattle.model.specs.Limits.{recordLimits, within};
+ghost use Rattle.model.specs.Rules.{hasFate, byWrong, whenWrong};
+ghost use Rattle.trace.specs.Checked.{listsOf};
 ghost use Rattle.trace.specs.Tested.{Tested};
 ghost use Rattle.audit.specs.Tallies.{countsFate, tallyIn, totalsIn, Tallied};
-ghost use Rattle.model.specs.declared.Fate.the-variants as Fate;
-ghost use Rattle.model.specs.Limits.{within};
-ghost use Rattle.model.specs.Rules.{hasFate, byWrong, whenWrong};
 ghost use Rattle.audit.specs.Rows.{rowOf, rowAt, Names, Reads, Place};
 ghost use Rattle.audit.specs.Sweep.{Rising, upTo, leaveOf, lastOf, notAfter, entryFault, foundOf, SweptAs};
 use model::AuditAnswer;
@@ -236,6 +236,17 @@ fn greater(a: u32, b: u32) -> u32
     if a < b { b } else { a }
 }
 
+// The fault of the packet at place i.
+fn faulty(fault: Fault, i: usize) -> Swept
+    requires { ⌜ i < recordLimits .packets ⌝ }
+    ensures { λ r. ⌜ r ≡ Swept.Faulty (record { fault = fault; packet = record { 0 = i + 1 } }) ⌝ }
+{
+    Swept::Faulty(FirstFault {
+        fault,
+        packet: PacketNumber(i as u32 + 1),
+    })
+}
+
 // One sweep over the packets. leaving[k] counts the packets passed that are held no more from the arrival at place k on.
 fn sweep(
     slots: &[u32],
@@ -254,15 +265,11 @@ fn sweep(
     let mut last = Slot(0);
     let mut i = 0;
     while i < slots.len() {
-        let packet = PacketNumber(i as u32 + 1);
         let Read::Entry(entry) = entry_at(slots, values, fates, whens, bys, i) else {
-            return Swept::Faulty(FirstFault {
-                fault: Fault::FateOutside,
-                packet,
-            });
+            return faulty(Fault::FateOutside, i);
         };
         if let Found::Fault(fault) = fault_of(slots, last, entry) {
-            return Swept::Faulty(FirstFault { fault, packet });
+            return faulty(fault, i);
         }
         last = last_of(last, entry);
         let leave = leave_of(slots, entry);
@@ -270,10 +277,7 @@ fn sweep(
         held = held - leaving[i] + stays;
         leaving[leave] += stays;
         if room < held as usize {
-            return Swept::Faulty(FirstFault {
-                fault: Fault::OverRoom,
-                packet,
-            });
+            return faulty(Fault::OverRoom, i);
         }
         most = greater(most, held);
         i += 1;

@@ -1,22 +1,22 @@
 -- `audit::audit` meets its contract: a refused trace is refused as `plainRefusal` says; of an accepted one the sweep says the first fault, or that there is
 -- none, and then the totals are tallied.
 use borrow.Author.Needs.{needs}
-use mathlib.Core.Path.{_≡_, refl, sym, ap, subst, _∙_}
 use Prim.Native.Nat.{ℕ}
-use Rattle.model.specs.Refusals.{plainRefusal, valueOk}
-use Rattle.audit.specs.Sweep.{SweptAs}
-use Rattle.audit.specs.declared.Swept.{Swept}
-use Rattle.model.specs.Packets.{arrivals}
-use Rattle.model.specs.Rules.{Verdict, clear}
-use Rattle.trace.specs.Tested.{Tested}
-use Rattle.model.specs.Record.{Lists, rows}
+use mathlib.Core.Path.{_≡_, refl, sym, ap, subst, _∙_}
 use Rattle.audit.proofs.Kept.{bufferOf}
-use Rattle.trace.specs.Checked.{verdictOf, listsOf}
-use Rattle.trace.proofs.Accepted.{accepted}
-use Rattle.audit.proofs.Answer.{tallied, totals-are, on-refused, on-faulty, on-passed}
+use Rattle.model.specs.Record.{Lists, rows}
 use Rattle.audit.proofs.audit.Tie as tie
-use Rattle.audit.proofs.audit.Statement.{statement}
 use Rattle.trace.specs.declared.Checked.{Checked}
+use Rattle.trace.specs.Tested.{Tested}
+use Rattle.audit.specs.declared.Swept.{Swept}
+use Rattle.model.specs.Refusals.{plainRefusal, valueOk}
+use Rattle.audit.proofs.audit.Statement.{statement}
+use Rattle.audit.proofs.Answer.{tallied, totals-are, on-refused, on-faulty, on-passed}
+use Rattle.model.specs.Rules.{Verdict, clear}
+use Rattle.trace.proofs.Accepted.{accepted}
+use Rattle.model.specs.Packets.{arrivals}
+use Rattle.trace.specs.Checked.{verdictOf, listsOf}
+use Rattle.audit.specs.Sweep.{SweptAs}
 
 abbrev start : tie.After-plain → tie.Start
 start c = c .before .before .before .before .before .before

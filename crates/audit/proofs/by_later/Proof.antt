@@ -1,10 +1,10 @@
 -- `audit::by_later` meets its contract: the first test decides the first half of `within`, and the second test is its second half.
-use Prim.Native.Nat.{suc}
 use borrow.Author.Tests.{le-leb, lt-leb, lt-ltb, le-ltb}
-use borrow.Author.Needs.{needs}
+use Prim.Native.Nat.{suc}
 use native.Mathlib.Omega.{arith}
-use Rattle.audit.proofs.by_later.Statement.{statement}
+use borrow.Author.Needs.{needs}
 use Rattle.audit.proofs.by_later.Tie as tie
+use Rattle.audit.proofs.by_later.Statement.{statement}
 use Rattle.model.specs.Limits.{within}
 
 cast-result : tie.Need-cast-result

@@ -1,8 +1,8 @@
 -- `audit::not_later` meets its contract: `notAfter` goes by the same test.
 use borrow.Author.Tests.{not-true, not-false}
 use borrow.Author.Needs.{needs}
-use Rattle.audit.proofs.not_later.Tie as tie
 use Rattle.audit.proofs.not_later.Statement.{statement}
+use Rattle.audit.proofs.not_later.Tie as tie
 use Rattle.audit.specs.Sweep.{notAfter}
 
 is-sent-requires : tie.Need-is-sent-requires

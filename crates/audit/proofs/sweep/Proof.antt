@@ -1,25 +1,25 @@
 -- `audit::sweep` meets its contract. The loop's invariant is what Kept says of the packets passed; each way through a turn is one of the laws of Turn.
-use mathlib.Core.Bool.{true}
 use Prim.Native.Nat.{ℕ, _+_, _-_, _≤_, _<_}
-use borrow.Author.Needs.{needs}
-use native.Mathlib.Omega.{arith}
-use native.Mathlib.Numerals.{add-one}
 use lib.ListN.{length, getD, length-set}
+use mathlib.Core.Bool.{true}
+use borrow.Author.Needs.{needs}
+use native.Mathlib.Numerals.{add-one}
+use native.Mathlib.Omega.{arith}
 use mathlib.Core.Path.{_≡_, refl, sym, ap, subst, _∙_}
-use Rattle.audit.specs.Rows.{rowOf, rowAt, Reads}
 use Rattle.audit.specs.Sweep.{foundOf, entryFault}
-use Rattle.model.specs.Record.{Lists, Row}
 use Rattle.audit.proofs.Kept.{Kept, kept-start, kept-end, turn-outside}
+use Rattle.audit.specs.Rows.{rowOf, rowAt, Reads}
 use Rattle.audit.specs.declared.Found.{Found}
-use Rattle.model.specs.Answers.{faultNumber}
-use Rattle.audit.specs.declared.Read.{Read}
-use Rattle.trace.specs.Checked.{listsOf}
-use Rattle.model.specs.Rules.{clear, verdictIf}
-use Rattle.audit.specs.declared.Entry.{Entry}
-use Rattle.audit.proofs.Turn as turn
 use Rattle.audit.proofs.sweep.Tie as tie
 use Rattle.audit.proofs.sweep.Statement.{statement}
+use Rattle.audit.proofs.Turn as turn
+use Rattle.audit.specs.declared.Read.{Read}
 use Rattle.audit.proofs.Turn.{Turn}
+use Rattle.model.specs.Answers.{faultNumber}
+use Rattle.audit.specs.declared.Entry.{Entry}
+use Rattle.model.specs.Record.{Lists, Row}
+use Rattle.model.specs.Rules.{clear, verdictIf}
+use Rattle.trace.specs.Checked.{listsOf}
 
 abbrev Inv-loop : tie.InvT-loop
 Inv-loop slots values room fates whens bys leaving₀ held₀ most₀ last₀ i₀ leaving held most last i =
@@ -70,9 +70,6 @@ clear-here c =
 abbrev clear-at : tie.After-only-if Inv-loop μ-loop → tie.After-enum-told2 Inv-loop μ-loop
 clear-at c = c .before .before .before
 
-abbrev place : tie.After-only-if Inv-loop μ-loop → ℕ
-place c = c .before .leave-of .result
-
 leave-in : (c : tie.After-only-if Inv-loop μ-loop) → c .before .leave-of .result < length (head (found (clear-at c)) .loop .leaving)
 leave-in c = turn.leave-in (at-turn (found (clear-at c))) (clear-here (clear-at c)) (c .before .leave-of .ensures) (c .only-if .ensures)
 
@@ -84,12 +81,6 @@ loop-holds c =
     let first = c .before .before .before .before .before in
     let a = first .args in
     kept-start (a .slots .now) (a .values .now) (a .room) (listsOf (a .fates .now) (a .whens .now) (a .bys .now)) _ refl (first .pre .few)
-
-cast-held : tie.Need-cast-held Inv-loop μ-loop
-cast-held c = omega (arith, start (c .before) .pre .few)
-
-add-held : tie.Need-add-held Inv-loop μ-loop
-add-held c = omega (arith, start (c .before) .pre .few)
 
 entry-at-requires : tie.Need-entry-at-requires Inv-loop μ-loop
 entry-at-requires c κs =
@@ -109,14 +100,18 @@ enum-known-entry c = search needs
 enum-told : tie.Need-enum-told Inv-loop μ-loop
 enum-told c = search needs
 
+faulty-requires : tie.Need-faulty-requires Inv-loop μ-loop
+faulty-requires c κs = omega (arith, start (c .before .before .before .before) .pre .few, c .before .before .before .loop-test .taken)
+
 returns : tie.Need-returns Inv-loop μ-loop
 returns c =
-    let in-loop = c .before .before .before in
+    let in-loop = c .before .before .before .before in
     let at-loop = in-loop .before in
     let a = start at-loop .args in
     let l = at-loop .loop in
-    turn-outside (a .slots .now) (a .values .now) (a .room) (lists at-loop) (l .i) (l .held) (l .most) (l .last .0) (l .leaving) (start at-loop .pre) (l .inv) (in-loop .loop-test .taken)
-    (subst (λ (x : Read). Reads (row at-loop) x) (c .enum-told .given .1) (c .before .before .entry-at .ensures))
+    rw (c .faulty .ensures)
+    (turn-outside (a .slots .now) (a .values .now) (a .room) (lists at-loop) (l .i) (l .held) (l .most) (l .last .0) (l .leaving) (start at-loop .pre) (l .inv) (in-loop .loop-test .taken)
+    (subst (λ (x : Read). Reads (row at-loop) x) (c .before .enum-told .given .1) (c .before .before .before .entry-at .ensures)))
 
 fault-of-requires : tie.Need-fault-of-requires Inv-loop μ-loop
 fault-of-requires c κs = search needs
@@ -124,14 +119,21 @@ fault-of-requires c κs = search needs
 enum-known-fault : tie.Need-enum-known-fault Inv-loop μ-loop
 enum-known-fault c = search needs
 
+faulty-requires-2 : tie.Need-faulty-requires-2 Inv-loop μ-loop
+faulty-requires-2 c κs =
+    let known = c .before .before .before .before in
+    omega (arith, at-turn known .here, at-turn known .tested .few)
+
 returns-2 : tie.Need-returns-2 Inv-loop μ-loop
 returns-2 c =
-    let known = c .before .before .before .before in
-    let g = c .before .fault .given .0 .0 in
-    turn.on-fault (at-turn known) g
-    (sym (c .before .before .before .fault-of .ensures)
-    ∙ ap (λ (x : Found). foundOf x (entry known .number)) (c .before .fault .given .1)
-    ∙ ap (λ (n : ℕ). verdictIf true (faultNumber g) n) (ap (λ (x : Row). x .number .0) (at-turn known .row-is) ∙ sym (add-one (head known .loop .i))))
+    let said = c .before .before in
+    let known = said .before .before .before in
+    let g = said .fault .given .0 .0 in
+    rw (c .faulty2 .ensures)
+    (turn.on-fault (at-turn known) g
+    (sym (said .before .before .fault-of .ensures)
+    ∙ ap (λ (x : Found). foundOf x (entry known .number)) (said .fault .given .1)
+    ∙ ap (λ (n : ℕ). verdictIf true (faultNumber g) n) (ap (λ (x : Row). x .number .0) (at-turn known .row-is) ∙ sym (add-one (head known .loop .i)))))
 
 enum-told-2 : tie.Need-enum-told-2 Inv-loop μ-loop
 enum-told-2 c = search needs
@@ -157,8 +159,8 @@ array-read-held c = omega (arith, start (head (found (clear-at c))) .pre .few, h
 sub-held : tie.Need-sub-held Inv-loop μ-loop
 sub-held c = turn.leaving-le (at-turn (found (clear-at c)))
 
-add-held-2 : tie.Need-add-held-2 Inv-loop μ-loop
-add-held-2 c = omega (arith, stays-le c, turn.held-le (at-turn (found (clear-at c))), start (head (found (clear-at c))) .pre .few)
+add-held : tie.Need-add-held Inv-loop μ-loop
+add-held c = omega (arith, stays-le c, turn.held-le (at-turn (found (clear-at c))), start (head (found (clear-at c))) .pre .few)
 
 mul-leaving : tie.Need-mul-leaving Inv-loop μ-loop
 mul-leaving c = omega (arith, leave-in c, head (found (clear-at c)) .loop .inv .places)
@@ -177,10 +179,16 @@ array-write-leaving c = omega (arith, leave-in c, head (found (clear-at c)) .loo
 cast-if1 : tie.Need-cast-if1 Inv-loop μ-loop
 cast-if1 c = omega (arith, stays-le c, turn.held-le (at-turn (found (clear-at c))), start (head (found (clear-at c))) .pre .few)
 
+faulty-requires-3 : tie.Need-faulty-requires-3 Inv-loop μ-loop
+faulty-requires-3 c κs =
+    let known = found (clear-at (c .before)) in
+    omega (arith, at-turn known .here, at-turn known .tested .few)
+
 returns-3 : tie.Need-returns-3 Inv-loop μ-loop
 returns-3 c =
-    let at = c .before in
-    turn.on-over (at-turn (found (clear-at at))) (clear-here (clear-at at)) (at .before .leave-of .ensures) (at .only-if .ensures) (c .if1 .taken)
+    let at = c .before .before in
+    rw (c .faulty3 .ensures)
+    (turn.on-over (at-turn (found (clear-at at))) (clear-here (clear-at at)) (at .before .leave-of .ensures) (at .only-if .ensures) (c .before .if1 .taken))
 
 greater-requires : tie.Need-greater-requires Inv-loop μ-loop
 greater-requires c κs = search needs
@@ -212,14 +220,14 @@ sweep-spec =
     Inv-loop
     μ-loop
     loop-holds
-    cast-held
-    add-held
     entry-at-requires
     enum-known-entry
     enum-told
+    faulty-requires
     returns
     fault-of-requires
     enum-known-fault
+    faulty-requires-2
     returns-2
     enum-told-2
     last-of-requires
@@ -228,12 +236,13 @@ sweep-spec =
     mul-held
     array-read-held
     sub-held
-    add-held-2
+    add-held
     mul-leaving
     array-read-leaving
     add-leaving
     array-write-leaving
     cast-if1
+    faulty-requires-3
     returns-3
     greater-requires
     add-i
