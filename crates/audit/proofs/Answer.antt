@@ -1,11 +1,10 @@
 -- The audit's three answers: a refusal's number is never 0, nor is a fault's, so either shuts out what would follow it; and the totals of the rows are those
 -- that were tallied.
-use Prim.Native.Nat.{ℕ, _≤_}
+use Prim.Native.Nat.{ℕ}
 use native.Mathlib.Omega.{arith}
-use mathlib.Core.Path.{_≡_, refl, sym, ap, _∙_}
-use mathlib.Core.Bool.{false, true}
+use mathlib.Core.Path.{_≡_, refl}
+use mathlib.Core.Bool.{false}
 use mathlib.Core.List.{List, []}
-use lib.ListN.{length}
 use lib.Dec.{eqb}
 use Rattle.model.specs.declared.Cause.{Cause}
 use Rattle.model.specs.declared.Cause.the-variants as causes
@@ -15,7 +14,6 @@ use Rattle.model.specs.declared.FirstFault.{FirstFault}
 use Rattle.model.specs.declared.Refusal.{Refusal}
 use Rattle.model.specs.declared.Totals.{Totals}
 use Rattle.model.specs.declared.Fate.the-variants.{Sent, Rejected, PushedOut, Preempted, Flushed}
-use Rattle.model.specs.declared.AuditAnswer.{AuditAnswer}
 use Rattle.model.specs.declared.AuditAnswer.the-variants as answers
 use Rattle.model.specs.Packets.{arrivals}
 use Rattle.model.specs.Record.{Lists, rows}

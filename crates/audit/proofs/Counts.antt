@@ -1,13 +1,13 @@
 -- Counts of rows. Rows whose test agrees are counted alike; and of the rows that leave at place i or later, those that leave at i and those that leave
 -- later are all.
-use Prim.Native.Nat.{ℕ, zero, suc, _+_, _≤_, _<_, zero-le}
+use Prim.Native.Nat.{ℕ, suc, _+_, _≤_, zero-le}
 use native.Mathlib.Omega.{arith}
-use mathlib.Core.Path.{_≡_, refl, ap}
+use mathlib.Core.Path.{_≡_, refl}
 use mathlib.Core.Bool.{Bool, true, false, cond}
 use mathlib.Core.List.{List, [], _∷_}
 use lib.ListN.{length}
 use lib.Dec.{leb, eqb}
-use borrow.Author.Tests.{leb-true, leb-false, eqb-true, eqb-false, le-leb, lt-leb, eq-eqb, ne-eqb}
+use borrow.Author.Tests.{leb-true, leb-false, eq-eqb, ne-eqb}
 use Rattle.model.specs.Record.{Row}
 use Rattle.model.specs.Rules.{countOf}
 use Rattle.audit.specs.Sweep.{leaveOf}

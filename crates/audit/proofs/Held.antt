@@ -1,9 +1,9 @@
 -- A packet is held at the arrivals before the place where it leaves, and at no other: for one that is sent or flushed since the slots never go down, for one
 -- that is lost by the number that `by` names.
-use Prim.Native.Nat.{ℕ, zero, suc, _-_, _≤_, _<_, zero-le}
+use Prim.Native.Nat.{ℕ, suc, _-_, _≤_, _<_, zero-le}
 use native.Mathlib.Omega.{arith}
 use mathlib.Core.Path.{_≡_, refl, sym, _∙_}
-use mathlib.Core.Bool.{Bool, true, false, not}
+use mathlib.Core.Bool.{Bool, true, false}
 use mathlib.Core.List.{List}
 use lib.ListN.{length, getD}
 use lib.Dec.{leb, ltb}
@@ -12,7 +12,8 @@ use Rattle.model.specs.declared.Fate.{Fate}
 use Rattle.model.specs.declared.Fate.the-variants.{Sent, Rejected, PushedOut, Preempted, Flushed}
 use Rattle.model.specs.Record.{Row, fateNumber}
 use Rattle.model.specs.Rules.{byWrong, isHeldAt}
-use Rattle.audit.specs.Sweep.{Rising, upTo, leaveOf}
+use Rattle.trace.specs.Tested.{Rising}
+use Rattle.audit.specs.Sweep.{upTo, leaveOf}
 use Rattle.audit.proofs.Fates.{by-test, by-range, held-test, leave-test}
 use Rattle.audit.proofs.UpTo.{in-front, past-front, front-le}
 

@@ -9,8 +9,8 @@ use mathlib.Core.Bool.{Bool, true, false, cond}
 use mathlib.Core.List.{List, [], _∷_}
 use lib.ListN.{length, getD, set, drop, length-set, drop-of-length-le, replicate, getD-replicate, length-replicate}
 use lib.Seq.{drop-cons, getD-set-same, getD-set-other}
-use lib.Dec.{leb, ltb, eqb}
-use borrow.Author.Tests.{leb-true, leb-false, eqb-true, eqb-false, eq-eqb, ne-eqb, le-leb, lt-leb, lt-ltb, le-ltb}
+use lib.Dec.{ltb, eqb}
+use borrow.Author.Tests.{eqb-true, eqb-false, lt-leb, lt-ltb, le-ltb}
 use Rattle.model.specs.declared.Fate.{Fate}
 use Rattle.model.specs.declared.Slot.{Slot}
 use Rattle.model.specs.declared.Fault.{Fault}
@@ -162,7 +162,7 @@ module _ (slots values : List ℕ) (room : ℕ) (lists : Lists) (i held most : �
   pub held-after : heldAfter passed this ≡ heldThen
   unfolding countOf
   held-after =
-      rw (held-until f slots this this i fate (t .packets .sorted) h refl refl, kept .held-at i (le-refl i) h)
+      rw (held-until f slots this this i fate (t .packets .rising) h refl refl, kept .held-at i (le-refl i) h)
       (omega (arith, later-held, kept .held-now, kept .leaving-at i (le-refl i) (omega arith)))
 
   abbrev whole : Verdict
@@ -237,7 +237,7 @@ module _ (slots values : List ℕ) (room : ℕ) (lists : Lists) (i held most : �
         → countOf (isHeldAt (rowAt slots values lists k)) (this ∷ passed) ≡ countOf (leavesFrom slots (suc k)) (this ∷ passed)
     unfolding countOf
     held-at-then k l l′ =
-        rw (held-until f slots (rowAt slots values lists k) this k fate (t .packets .sorted) l′ refl refl, kept .held-at k (omega arith) l′)
+        rw (held-until f slots (rowAt slots values lists k) this k fate (t .packets .rising) l′ refl refl, kept .held-at k (omega arith) l′)
 
     most-then : max (max most heldThen) (mostHeldFrom (this ∷ passed) (rest slots values lists (suc i))) ≡ mostHeldFrom [] (rest slots values lists 0)
     unfolding mostHeldFrom

@@ -1,5 +1,5 @@
 -- The front of a trace that is not after a slot. Where the slots never go down it ends at the first slot that is after it, which halving finds.
-use Prim.Native.Nat.{ℕ, zero, suc, _+_, _-_, _/_, _≤_, _<_, zero-le, suc-le-suc}
+use Prim.Native.Nat.{ℕ, zero, suc, _+_, _-_, _≤_, _<_, zero-le, suc-le-suc}
 use native.Mathlib.Nat.{le-of-suc-le-suc}
 use native.Mathlib.Omega.{arith}
 use mathlib.Core.Path.{_≡_, refl}
@@ -8,7 +8,8 @@ use mathlib.Core.List.{List, [], _∷_}
 use lib.ListN.{length, getD}
 use lib.Dec.{leb}
 use borrow.Author.Tests.{leb-true, leb-false}
-use Rattle.audit.specs.Sweep.{Rising, upTo}
+use Rattle.trace.specs.Tested.{Rising}
+use Rattle.audit.specs.Sweep.{upTo}
 
 -- every slot of the front is not after `when`
 pub in-front : (slots : List ℕ) (when k : ℕ) → k < upTo slots when → getD slots k 0 ≤ when

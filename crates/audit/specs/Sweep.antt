@@ -1,27 +1,21 @@
 -- What the sweep keeps of the packets so far, in place of their rows: the when of the last one sent, and for each the arrival at which it is held no more.
-use Prim.Native.Nat.{ℕ, suc, _≤_, _<_, _-_}
+use Prim.Native.Nat.{ℕ, suc, _-_}
 use mathlib.Core.Path.{_≡_}
 use mathlib.Core.Bool.{Bool, cond, _&&_}
 use mathlib.Core.List.{List, [], _∷_}
-use lib.ListN.{length, getD}
-use lib.Dec.{leb, eqb}
-use Rattle.model.specs.declared.Fate.{Fate}
-use Rattle.model.specs.declared.Fate.the-variants.{Sent, Rejected, PushedOut, Preempted, Flushed}
+use lib.ListN.{length}
+use lib.Dec.{leb}
+use Rattle.model.specs.declared.Fate.the-variants.{Sent, Flushed}
 use Rattle.model.specs.declared.PacketNumber.{PacketNumber}
 use Rattle.model.specs.declared.Slot.{Slot}
 use Rattle.model.specs.Record.{Row}
 use Rattle.model.specs.Totals.{mostHeldFrom}
 use Rattle.model.specs.Rules.{Verdict, Buffer, clear, firstFault, orElse, verdictIf, hasFate, isLost, byWrong, whenWrong}
 use Rattle.model.specs.Answers.{faultNumber}
-use Rattle.audit.specs.declared.Entry.{Entry}
 use Rattle.audit.specs.declared.Found.{Found}
 use Rattle.audit.specs.declared.Found.the-variants as found
 use Rattle.audit.specs.declared.Swept.{Swept}
 use Rattle.audit.specs.declared.Swept.the-variants as swept
-
--- the slots never go down
-abbrev pub Rising : List ℕ → Type 0
-Rising slots = (p q : ℕ) → p ≤ q → q < length slots → getD slots p 0 ≤ getD slots q 0
 
 -- how many slots at the front of the list are not after `when`
 unfoldable pub upTo : List ℕ → ℕ → ℕ

@@ -2,7 +2,7 @@
 -- with the entry at i.
 use Prim.Native.Nat.{ℕ, suc, _+_, _<_, _≤_}
 use mathlib.Core.Path.{_≡_, refl}
-use mathlib.Core.Bool.{Bool, true, false, not, _&&_}
+use mathlib.Core.Bool.{Bool, true, false, _&&_}
 use mathlib.Core.List.{List}
 use lib.ListN.{length, getD, drop, drop-of-length-le}
 use lib.Seq.{drop-cons}
@@ -11,7 +11,7 @@ use native.Mathlib.Omega.{arith}
 use native.Mathlib.Numerals.{add-one}
 use Rattle.model.specs.declared.Slot.{Slot}
 use Rattle.model.specs.Packets.{arrivalsFrom}
-use Rattle.model.specs.Rules.{Verdict, clear, orElse, verdictIf}
+use Rattle.model.specs.Rules.{Verdict, clear, orElse}
 use Rattle.model.specs.Limits.{recordLimits}
 use Rattle.model.specs.Refusals.{unless, roomOk, slotOk, valueOk, packetRefusal, packetRefusalFrom, traceRefusal}
 use Rattle.trace.specs.declared.Values.{Values}

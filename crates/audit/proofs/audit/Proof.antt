@@ -1,22 +1,20 @@
 -- `audit::audit` meets its contract: a refused trace is refused as `plainRefusal` says; of an accepted one the sweep says the first fault, or that there is
 -- none, and then the totals are tallied.
+use mathlib.Core.Path.{_≡_, sym, ap, subst, _∙_}
 use borrow.Author.Needs.{needs}
-use Prim.Native.Nat.{ℕ}
-use mathlib.Core.Path.{_≡_, refl, sym, ap, subst, _∙_}
-use Rattle.audit.proofs.Kept.{bufferOf}
-use Rattle.model.specs.Record.{Lists, rows}
-use Rattle.audit.proofs.audit.Tie as tie
-use Rattle.trace.specs.declared.Checked.{Checked}
-use Rattle.trace.specs.Tested.{Tested}
-use Rattle.audit.specs.declared.Swept.{Swept}
-use Rattle.model.specs.Refusals.{plainRefusal, valueOk}
-use Rattle.audit.proofs.audit.Statement.{statement}
-use Rattle.audit.proofs.Answer.{tallied, totals-are, on-refused, on-faulty, on-passed}
-use Rattle.model.specs.Rules.{Verdict, clear}
-use Rattle.trace.proofs.Accepted.{accepted}
-use Rattle.model.specs.Packets.{arrivals}
-use Rattle.trace.specs.Checked.{verdictOf, listsOf}
 use Rattle.audit.specs.Sweep.{SweptAs}
+use Rattle.model.specs.Refusals.{plainRefusal, valueOk}
+use Rattle.trace.specs.Checked.{verdictOf, listsOf}
+use Rattle.audit.proofs.audit.Tie as tie
+use Rattle.audit.specs.declared.Swept.{Swept}
+use Rattle.model.specs.Rules.{Verdict, clear}
+use Rattle.audit.proofs.Answer.{tallied, totals-are, on-refused, on-faulty, on-passed}
+use Rattle.model.specs.Packets.{arrivals}
+use Rattle.trace.specs.Tested.{Tested}
+use Rattle.audit.proofs.audit.Statement.{statement}
+use Rattle.audit.proofs.Kept.{bufferOf}
+use Rattle.trace.proofs.Accepted.{accepted}
+use Rattle.model.specs.Record.{Lists, rows}
 
 abbrev start : tie.After-plain → tie.Start
 start c = c .before .before .before .before .before .before

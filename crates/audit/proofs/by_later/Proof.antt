@@ -1,11 +1,11 @@
 -- `audit::by_later` meets its contract: the first test decides the first half of `within`, and the second test is its second half.
-use borrow.Author.Tests.{le-leb, lt-leb, lt-ltb, le-ltb}
+use borrow.Author.Tests.{le-leb, lt-leb}
 use Prim.Native.Nat.{suc}
-use native.Mathlib.Omega.{arith}
 use borrow.Author.Needs.{needs}
+use native.Mathlib.Omega.{arith}
 use Rattle.audit.proofs.by_later.Tie as tie
-use Rattle.audit.proofs.by_later.Statement.{statement}
 use Rattle.model.specs.Limits.{within}
+use Rattle.audit.proofs.by_later.Statement.{statement}
 
 cast-result : tie.Need-cast-result
 cast-result c = search needs

@@ -1,13 +1,13 @@
 -- `audit::by_wrong` meets its contract: in each arm the fate is known, and `byWrong` is that fate's test.
-use mathlib.Core.Bool.{not}
-use mathlib.Core.Path.{_≡_, sym, ap, _∙_}
 use borrow.Author.Needs.{needs}
+use mathlib.Core.Path.{sym, ap, _∙_}
+use mathlib.Core.Bool.{not}
 use Rattle.audit.proofs.Fates.{by-test}
 use Rattle.audit.specs.Rows.{rowOf}
-use Rattle.model.specs.declared.Fate.the-variants.{Sent, Rejected, PushedOut, Preempted, Flushed}
-use Rattle.model.specs.Record.{fateNumber}
-use Rattle.audit.proofs.by_wrong.Statement.{statement}
 use Rattle.audit.proofs.by_wrong.Tie as tie
+use Rattle.audit.proofs.by_wrong.Statement.{statement}
+use Rattle.model.specs.Record.{fateNumber}
+use Rattle.model.specs.declared.Fate.the-variants.{Sent, Rejected, PushedOut, Preempted, Flushed}
 
 enum-told : tie.Need-enum-told
 enum-told c = search needs

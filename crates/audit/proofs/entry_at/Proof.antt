@@ -1,16 +1,16 @@
 -- `audit::entry_at` meets its contract: the fate that was read is the number of a fate, or none, and the other fields are those of the row.
-use lib.ListN.{getD}
-use native.Mathlib.Numerals.{add-one}
-use mathlib.Core.Bool.{false}
-use mathlib.Core.Path.{_≡_, subst}
 use borrow.Author.Needs.{needs}
+use mathlib.Core.Bool.{false}
+use native.Mathlib.Numerals.{add-one}
+use mathlib.Core.Path.{_≡_, subst}
+use lib.ListN.{getD}
+use Rattle.audit.specs.declared.Named.{Named}
 use Rattle.audit.proofs.entry_at.Statement.{statement}
+use Rattle.model.specs.Rules.{fateOutside}
 use Rattle.model.specs.Record.{fateNumber}
 use Rattle.model.specs.Limits.{within}
-use Rattle.audit.specs.Rows.{Names}
 use Rattle.audit.proofs.entry_at.Tie as tie
-use Rattle.audit.specs.declared.Named.{Named}
-use Rattle.model.specs.Rules.{fateOutside}
+use Rattle.audit.specs.Rows.{Names}
 
 mul-fate-of : tie.Need-mul-fate-of
 mul-fate-of c = search needs

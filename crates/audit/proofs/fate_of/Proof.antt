@@ -1,9 +1,8 @@
 -- `audit::fate_of` meets its contract: in each arm the number is known, and in the last it is none of 1 to 5.
 use borrow.Author.Needs.{needs}
-use Rattle.audit.proofs.fate_of.Statement.{statement}
-use Rattle.audit.proofs.Fates.{outside}
-use Rattle.model.specs.Limits.{within}
 use Rattle.audit.proofs.fate_of.Tie as tie
+use Rattle.audit.proofs.Fates.{outside}
+use Rattle.audit.proofs.fate_of.Statement.{statement}
 
 returns : tie.Need-returns
 returns c = search needs

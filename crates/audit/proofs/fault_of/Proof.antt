@@ -1,9 +1,9 @@
 -- `audit::fault_of` meets its contract: the first test that holds is the first of `entryFault`.
-use mathlib.Core.Path.{sym, _∙_}
 use borrow.Author.Needs.{needs}
+use mathlib.Core.Path.{sym, _∙_}
+use Rattle.audit.proofs.fault_of.Tie as tie
 use Rattle.audit.proofs.fault_of.Statement.{statement}
 use Rattle.model.specs.Rules.{orElse}
-use Rattle.audit.proofs.fault_of.Tie as tie
 
 by-wrong-requires : tie.Need-by-wrong-requires
 by-wrong-requires c κs = search needs

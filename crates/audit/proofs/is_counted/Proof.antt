@@ -1,7 +1,7 @@
 -- `audit::is_counted` meets its contract: in each arm it is known which packets are counted.
 use borrow.Author.Needs.{needs}
-use Rattle.audit.proofs.is_counted.Tie as tie
 use Rattle.audit.proofs.is_counted.Statement.{statement}
+use Rattle.audit.proofs.is_counted.Tie as tie
 
 enum-told : tie.Need-enum-told
 enum-told c = search needs

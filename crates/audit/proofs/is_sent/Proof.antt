@@ -1,10 +1,8 @@
 -- `audit::is_sent` meets its contract: the two numbers compared are the fate's own and that of sent.
-use lib.Dec.{eqb}
-use mathlib.Core.Path.{_≡_, sym, ap, _∙_}
 use borrow.Author.Needs.{needs}
-use Rattle.audit.proofs.is_sent.Statement.{statement}
 use Rattle.audit.proofs.is_sent.Tie as tie
 use Rattle.model.specs.Rules.{hasFate}
+use Rattle.audit.proofs.is_sent.Statement.{statement}
 
 number-requires : tie.Need-number-requires
 number-requires c κs = search needs

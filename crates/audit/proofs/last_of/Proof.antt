@@ -1,8 +1,8 @@
 -- `audit::last_of` meets its contract: `lastOf` goes by the same test.
 use borrow.Author.Needs.{needs}
-use Rattle.audit.proofs.last_of.Statement.{statement}
-use Rattle.audit.specs.Sweep.{lastOf}
 use Rattle.audit.proofs.last_of.Tie as tie
+use Rattle.audit.specs.Sweep.{lastOf}
+use Rattle.audit.proofs.last_of.Statement.{statement}
 
 is-sent-requires : tie.Need-is-sent-requires
 is-sent-requires c κs = search needs

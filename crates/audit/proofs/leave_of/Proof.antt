@@ -1,13 +1,13 @@
 -- `audit::leave_of` meets its contract: in each arm the fate is known, and `leaveOf` is that fate's case.
-use mathlib.Core.Path.{_≡_, sym, ap, _∙_}
-use native.Mathlib.Omega.{arith}
 use borrow.Author.Needs.{needs}
-use Rattle.audit.proofs.leave_of.Statement.{statement}
+use native.Mathlib.Omega.{arith}
+use mathlib.Core.Path.{sym, ap, _∙_}
 use Rattle.audit.specs.Rows.{rowOf}
 use Rattle.audit.proofs.leave_of.Tie as tie
-use Rattle.model.specs.declared.Fate.the-variants.{Sent, Rejected, PushedOut, Preempted, Flushed}
 use Rattle.model.specs.Record.{fateNumber}
 use Rattle.audit.proofs.Fates.{by-test, by-range, leave-test}
+use Rattle.model.specs.declared.Fate.the-variants.{Sent, Rejected, PushedOut, Preempted, Flushed}
+use Rattle.audit.proofs.leave_of.Statement.{statement}
 
 enum-told : tie.Need-enum-told
 enum-told c = search needs

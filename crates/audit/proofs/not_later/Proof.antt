@@ -1,9 +1,9 @@
 -- `audit::not_later` meets its contract: `notAfter` goes by the same test.
-use borrow.Author.Tests.{not-true, not-false}
 use borrow.Author.Needs.{needs}
-use Rattle.audit.proofs.not_later.Statement.{statement}
+use borrow.Author.Tests.{not-true, not-false}
 use Rattle.audit.proofs.not_later.Tie as tie
 use Rattle.audit.specs.Sweep.{notAfter}
+use Rattle.audit.proofs.not_later.Statement.{statement}
 
 is-sent-requires : tie.Need-is-sent-requires
 is-sent-requires c κs = search needs

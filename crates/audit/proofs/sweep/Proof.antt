@@ -1,25 +1,25 @@
 -- `audit::sweep` meets its contract. The loop's invariant is what Kept says of the packets passed; each way through a turn is one of the laws of Turn.
-use Prim.Native.Nat.{ℕ, _+_, _-_, _≤_, _<_}
-use lib.ListN.{length, getD, length-set}
-use mathlib.Core.Bool.{true}
 use borrow.Author.Needs.{needs}
-use native.Mathlib.Numerals.{add-one}
-use native.Mathlib.Omega.{arith}
 use mathlib.Core.Path.{_≡_, refl, sym, ap, subst, _∙_}
+use lib.ListN.{length}
+use mathlib.Core.Bool.{true}
+use Prim.Native.Nat.{ℕ, _-_, _≤_, _<_}
+use native.Mathlib.Omega.{arith}
+use native.Mathlib.Numerals.{add-one}
 use Rattle.audit.specs.Sweep.{foundOf, entryFault}
 use Rattle.audit.proofs.Kept.{Kept, kept-start, kept-end, turn-outside}
+use Rattle.audit.proofs.Turn as turn
 use Rattle.audit.specs.Rows.{rowOf, rowAt, Reads}
+use Rattle.audit.specs.declared.Read.{Read}
 use Rattle.audit.specs.declared.Found.{Found}
 use Rattle.audit.proofs.sweep.Tie as tie
-use Rattle.audit.proofs.sweep.Statement.{statement}
-use Rattle.audit.proofs.Turn as turn
-use Rattle.audit.specs.declared.Read.{Read}
-use Rattle.audit.proofs.Turn.{Turn}
 use Rattle.model.specs.Answers.{faultNumber}
-use Rattle.audit.specs.declared.Entry.{Entry}
+use Rattle.audit.proofs.sweep.Statement.{statement}
 use Rattle.model.specs.Record.{Lists, Row}
+use Rattle.audit.proofs.Turn.{Turn}
 use Rattle.model.specs.Rules.{clear, verdictIf}
 use Rattle.trace.specs.Checked.{listsOf}
+use Rattle.audit.specs.declared.Entry.{Entry}
 
 abbrev Inv-loop : tie.InvT-loop
 Inv-loop slots values room fates whens bys leaving₀ held₀ most₀ last₀ i₀ leaving held most last i =
@@ -143,7 +143,7 @@ last-of-requires c κs = search needs
 
 leave-of-requires : tie.Need-leave-of-requires Inv-loop μ-loop
 leave-of-requires c κs = (
-  start (head (found (c .before))) .pre .packets .sorted,
+  start (head (found (c .before))) .pre .packets .rising,
   turn.by-right (at-turn (found (c .before))) (clear-here (c .before)),
 )
 

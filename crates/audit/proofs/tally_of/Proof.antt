@@ -1,15 +1,14 @@
 -- `audit::tally_of` meets its contract. The loop's invariant: what is counted and what is left make the whole; and the sums so far are bounded by the
 -- number of packets passed, so they fit.
-use mathlib.Core.Path.{_≡_}
-use Prim.Native.Nat.{_-_, _≤_}
-use lib.ListN.{length, getD}
-use native.Mathlib.Omega.{arith}
 use borrow.Author.Needs.{needs}
-use Rattle.audit.proofs.Tallies.{SoFar, so-far-start, so-far-more, so-far-end}
-use Rattle.audit.proofs.tally_of.Tie as tie
+use native.Mathlib.Omega.{arith}
+use lib.ListN.{length, getD}
+use Prim.Native.Nat.{_-_, _≤_}
 use Rattle.model.specs.Limits.{recordLimits}
 use Rattle.audit.proofs.tally_of.Statement.{statement}
 use Rattle.audit.proofs.Counts.{only-le}
+use Rattle.audit.proofs.Tallies.{SoFar, so-far-start, so-far-more, so-far-end}
+use Rattle.audit.proofs.tally_of.Tie as tie
 
 abbrev Inv-loop : tie.InvT-loop
 Inv-loop values fates which count₀ value₀ i₀ count value i = SoFar values fates which count value i

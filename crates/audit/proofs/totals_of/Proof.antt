@@ -1,7 +1,7 @@
 -- `audit::totals_of` meets its contract: each part of the totals is what its tally ensures.
 use borrow.Author.Needs.{needs}
-use Rattle.audit.proofs.totals_of.Tie as tie
 use Rattle.audit.proofs.totals_of.Statement.{statement}
+use Rattle.audit.proofs.totals_of.Tie as tie
 
 tally-of-requires : tie.Need-tally-of-requires
 tally-of-requires c κs = search needs

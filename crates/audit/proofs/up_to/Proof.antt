@@ -2,9 +2,9 @@
 -- all on one side of it; the measure is what lies between the two.
 use Prim.Native.Nat.{_+_, _-_, _/_}
 use native.Mathlib.Omega.{arith}
+use Rattle.audit.proofs.up_to.Statement.{statement}
 use Rattle.audit.proofs.up_to.Tie as tie
 use Rattle.audit.proofs.UpTo.{Bracket, bracket-start, bracket-up, bracket-down, met}
-use Rattle.audit.proofs.up_to.Statement.{statement}
 
 abbrev Inv-loop : tie.InvT-loop
 Inv-loop slots when low₀ high₀ low high = Bracket slots (when .0) low high

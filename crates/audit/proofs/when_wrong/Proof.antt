@@ -1,16 +1,16 @@
 -- `audit::when_wrong` meets its contract: in each arm the fate is known, and `whenWrong` is that fate's test. Where it reads the slot of `by`, fault 12 is clear, so `by` names a packet of the trace.
-use lib.Dec.{ltb, eqb}
-use mathlib.Core.Bool.{not}
-use mathlib.Core.Path.{_≡_, sym, ap, _∙_}
-use native.Mathlib.Omega.{arith}
 use borrow.Author.Needs.{needs}
+use lib.Dec.{ltb, eqb}
+use native.Mathlib.Omega.{arith}
+use mathlib.Core.Path.{sym, ap, _∙_}
+use mathlib.Core.Bool.{not}
 use Rattle.audit.specs.Rows.{rowOf}
-use Rattle.model.specs.declared.Fate.the-variants.{Sent, Rejected, PushedOut, Preempted, Flushed}
-use Rattle.model.specs.Record.{fateNumber}
 use Rattle.audit.proofs.when_wrong.Statement.{statement}
-use Rattle.audit.proofs.when_wrong.Tie as tie
+use Rattle.model.specs.Record.{fateNumber}
 use Rattle.model.specs.declared.Slot.{Slot}
 use Rattle.audit.proofs.Fates.{by-test, by-range, when-test}
+use Rattle.model.specs.declared.Fate.the-variants.{Sent, Rejected, PushedOut, Preempted, Flushed}
+use Rattle.audit.proofs.when_wrong.Tie as tie
 
 enum-told : tie.Need-enum-told
 enum-told c = search needs

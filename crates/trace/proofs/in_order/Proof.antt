@@ -2,18 +2,18 @@
 use mathlib.Core.Path.{_≡_, sym, ap, _∙_}
 use borrow.Author.Needs.{needs}
 use native.Mathlib.Omega.{arith}
-use mathlib.Core.Bool.{true, false}
-use lib.ListN.{length}
 use borrow.Author.Tests.{not-true, not-false, le-leb, lt-leb}
 use lib.Dec.{leb}
-use Rattle.model.specs.Record.{Lists}
-use Rattle.trace.specs.Checked.{verdictOf, listsOf, okOf, lengthsEqual}
-use Rattle.model.specs.Limits.{recordLimits}
-use Rattle.trace.proofs.in_order.Statement.{statement}
-use Rattle.model.specs.Rules.{Verdict}
+use lib.ListN.{length}
+use mathlib.Core.Bool.{true}
 use Rattle.model.specs.Refusals.{unless, roomOk, traceRefusal}
+use Rattle.trace.proofs.in_order.Statement.{statement}
 use Rattle.trace.proofs.in_order.Tie as tie
 use Rattle.trace.proofs.Laws.{Order, order, values-length}
+use Rattle.model.specs.Record.{Lists}
+use Rattle.trace.specs.Checked.{verdictOf, listsOf, okOf, lengthsEqual}
+use Rattle.model.specs.Rules.{Verdict}
+use Rattle.model.specs.Limits.{recordLimits}
 
 -- where the lengths were tested
 abbrev start : tie.After-lengths-equal → tie.Start

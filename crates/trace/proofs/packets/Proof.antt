@@ -1,15 +1,15 @@
 -- `trace::packets` meets its contract. The loop's invariant: what the walk answers from the packet at place i on is what it answers of the whole trace.
-use Prim.Native.Nat.{_≤_, _-_}
+use borrow.Author.Needs.{needs}
 use mathlib.Core.Path.{_≡_, refl, sym, _∙_}
 use native.Mathlib.Omega.{arith}
-use borrow.Author.Needs.{needs}
-use borrow.Author.Tests.{not-true, not-false}
+use Prim.Native.Nat.{_≤_, _-_}
 use lib.ListN.{length}
-use Rattle.model.specs.Refusals.{packetRefusal}
-use Rattle.trace.specs.Checked.{okOf}
-use Rattle.trace.proofs.Laws.{Turn, turn, restFrom, turn-none}
-use Rattle.trace.proofs.packets.Statement.{statement}
+use borrow.Author.Tests.{not-true, not-false}
 use Rattle.trace.proofs.packets.Tie as tie
+use Rattle.trace.proofs.Laws.{Turn, turn, restFrom, turn-none}
+use Rattle.trace.specs.Checked.{okOf}
+use Rattle.trace.proofs.packets.Statement.{statement}
+use Rattle.model.specs.Refusals.{packetRefusal}
 
 abbrev Inv-loop : tie.InvT-loop
 Inv-loop slots values taken before₀ i₀ before i =

@@ -1,8 +1,8 @@
 -- `trace::slot_ok` meets its contract: at each return the tests that led there decide the parts of `slotOk`.
 use borrow.Author.Tests.{le-leb, lt-leb}
-use Rattle.trace.proofs.slot_ok.Tie as tie
-use Rattle.model.specs.Limits.{within}
 use Rattle.trace.proofs.slot_ok.Statement.{statement}
+use Rattle.model.specs.Limits.{within}
+use Rattle.trace.proofs.slot_ok.Tie as tie
 
 returns : tie.Need-returns
 unfolding within
