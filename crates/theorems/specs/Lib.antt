@@ -1,2 +1,2 @@
--- What is proved of the definitions: the statements of demand 3.
 pub mod Demand3
+pub mod Fed
