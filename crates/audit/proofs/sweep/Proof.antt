@@ -1,8 +1,9 @@
 -- `audit::sweep` meets its contract. The loop's invariant is what Kept says of the packets passed; each way through a turn is one of the laws of Turn.
 use borrow.Author.Needs.{needs}
 use mathlib.Core.Path.{_≡_, refl, sym, ap, subst, _∙_}
-use lib.ListN.{length}
+use lib.ListN.{length, getD}
 use mathlib.Core.Bool.{true}
+use mathlib.Core.List.{List}
 use Prim.Native.Nat.{ℕ, _-_, _≤_, _<_}
 use native.Mathlib.Omega.{arith}
 use native.Mathlib.Numerals.{add-one}
@@ -15,6 +16,7 @@ use Rattle.audit.specs.declared.Found.{Found}
 use Rattle.audit.proofs.sweep.Tie as tie
 use Rattle.model.specs.Answers.{faultNumber}
 use Rattle.audit.proofs.sweep.Statement.{statement}
+use Rattle.model.specs.Limits.{recordLimits}
 use Rattle.model.specs.Record.{Lists, Row}
 use Rattle.audit.proofs.Turn.{Turn}
 use Rattle.model.specs.Rules.{clear, verdictIf}
@@ -52,7 +54,7 @@ at-turn c =
     record {
       tested = start (head c) .pre;
       kept = head c .loop .inv;
-      here = c .before .before .before .before .loop-test .taken;
+      here = omega (arith, c .before .before .before .before .loop-test .taken);
       row-is = subst (λ (x : Read). Reads (row (head c)) x) (c .before .entry .given .1) (c .before .before .before .entry-at .ensures);
       fate-is = refl;
     }
@@ -70,11 +72,28 @@ clear-here c =
 abbrev clear-at : tie.After-only-if Inv-loop μ-loop → tie.After-enum-told2 Inv-loop μ-loop
 clear-at c = c .before .before .before
 
-leave-in : (c : tie.After-only-if Inv-loop μ-loop) → c .before .leave-of .result < length (head (found (clear-at c)) .loop .leaving)
-leave-in c = turn.leave-in (at-turn (found (clear-at c))) (clear-here (clear-at c)) (c .before .leave-of .ensures) (c .only-if .ensures)
+-- every place that the turn reads or writes is one of the array, and every count there is small
+record Bounds (i leave stays : ℕ) (leaving : List ℕ) : Type 0 where
+  here : i < recordLimits .packets
+  there : leave ≤ recordLimits .packets
+  stay : stays ≤ 1
+  count-here : getD leaving i 0 ≤ i
+  count-there : getD leaving leave 0 ≤ i
 
-stays-le : (c : tie.After-only-if Inv-loop μ-loop) → c .only-if .result ≤ 1
-stays-le c = turn.stays-le (at-turn (found (clear-at c))) (clear-here (clear-at c)) (c .before .leave-of .ensures) (c .only-if .ensures)
+bounds : (c : tie.After-only-if Inv-loop μ-loop) → let l = head (found (clear-at c)) .loop in
+    Bounds (l .i) (c .before .leave-of .result) (c .only-if .result) (l .leaving)
+bounds c =
+    let at-loop = head (found (clear-at c)) in
+    let this = at-turn (found (clear-at c)) in
+    let places = at-loop .loop .inv .places in
+    let in-array = turn.leave-in this (clear-here (clear-at c)) (c .before .leave-of .ensures) (c .only-if .ensures) in
+    record {
+      here = omega (arith, this .here, this .tested .few);
+      there = omega (arith, in-array, places);
+      stay = turn.stays-le this (clear-here (clear-at c)) (c .before .leave-of .ensures) (c .only-if .ensures);
+      count-here = at-loop .loop .inv .small (at-loop .loop .i);
+      count-there = at-loop .loop .inv .small (c .before .leave-of .result);
+    }
 
 loop-holds : tie.Need-loop-holds Inv-loop μ-loop
 loop-holds c =
@@ -86,7 +105,7 @@ entry-at-requires : tie.Need-entry-at-requires Inv-loop μ-loop
 entry-at-requires c κs =
     let t = start (c .before) .pre in
     record {
-      in-slots = c .loop-test .taken;
+      in-slots = omega arith;
       in-values = omega (arith, t .values-length);
       in-fates = omega (arith, t .fates-length);
       in-whens = omega (arith, t .whens-length);
@@ -110,7 +129,7 @@ returns c =
     let a = start at-loop .args in
     let l = at-loop .loop in
     rw (c .faulty .ensures)
-    (turn-outside (a .slots .now) (a .values .now) (a .room) (lists at-loop) (l .i) (l .held) (l .most) (l .last .0) (l .leaving) (start at-loop .pre) (l .inv) (in-loop .loop-test .taken)
+    (turn-outside (a .slots .now) (a .values .now) (a .room) (lists at-loop) (l .i) (l .held) (l .most) (l .last .0) (l .leaving) (start at-loop .pre) (l .inv) (omega (arith, in-loop .loop-test .taken))
     (subst (λ (x : Read). Reads (row at-loop) x) (c .before .enum-told .given .1) (c .before .before .before .entry-at .ensures)))
 
 fault-of-requires : tie.Need-fault-of-requires Inv-loop μ-loop
@@ -151,33 +170,31 @@ only-if-requires : tie.Need-only-if-requires Inv-loop μ-loop
 only-if-requires c κs = search needs
 
 mul-held : tie.Need-mul-held Inv-loop μ-loop
-mul-held c = omega (arith, start (head (found (clear-at c))) .pre .few)
+mul-held c = omega (arith, bounds c)
 
 array-read-held : tie.Need-array-read-held Inv-loop μ-loop
-array-read-held c = omega (arith, start (head (found (clear-at c))) .pre .few, head (found (clear-at c)) .loop .inv .places)
+array-read-held c = omega (arith, bounds c)
 
 sub-held : tie.Need-sub-held Inv-loop μ-loop
 sub-held c = turn.leaving-le (at-turn (found (clear-at c)))
 
 add-held : tie.Need-add-held Inv-loop μ-loop
-add-held c = omega (arith, stays-le c, turn.held-le (at-turn (found (clear-at c))), start (head (found (clear-at c))) .pre .few)
+add-held c = omega (arith, bounds c, turn.held-le (at-turn (found (clear-at c))))
 
 mul-leaving : tie.Need-mul-leaving Inv-loop μ-loop
-mul-leaving c = omega (arith, leave-in c, head (found (clear-at c)) .loop .inv .places)
+mul-leaving c = omega (arith, bounds c)
 
 array-read-leaving : tie.Need-array-read-leaving Inv-loop μ-loop
-array-read-leaving c = omega (arith, leave-in c, head (found (clear-at c)) .loop .inv .places)
+array-read-leaving c = omega (arith, bounds c)
 
 add-leaving : tie.Need-add-leaving Inv-loop μ-loop
-add-leaving c =
-    let at-loop = head (found (clear-at c)) in
-    omega (arith, stays-le c, at-loop .loop .inv .small (c .before .leave-of .result), start at-loop .pre .few)
+add-leaving c = omega (arith, bounds c)
 
 array-write-leaving : tie.Need-array-write-leaving Inv-loop μ-loop
-array-write-leaving c = omega (arith, leave-in c, head (found (clear-at c)) .loop .inv .places)
+array-write-leaving c = omega (arith, bounds c)
 
 cast-if1 : tie.Need-cast-if1 Inv-loop μ-loop
-cast-if1 c = omega (arith, stays-le c, turn.held-le (at-turn (found (clear-at c))), start (head (found (clear-at c))) .pre .few)
+cast-if1 c = omega (arith, bounds c, turn.held-le (at-turn (found (clear-at c))))
 
 faulty-requires-3 : tie.Need-faulty-requires-3 Inv-loop μ-loop
 faulty-requires-3 c κs =
