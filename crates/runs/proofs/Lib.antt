@@ -6,3 +6,4 @@ pub mod Counting
 pub mod Places
 pub mod Running
 pub mod Ordering
+pub mod Keeping

@@ -4,4 +4,5 @@ pub mod Step
 pub mod Run
 pub mod Places
 pub mod Order
+pub mod Keep
 pub mod Totals

@@ -1,5 +1,6 @@
 // Plain greedy and PG on a trace: one run, two rules.
 mod entry;
+mod keep;
 mod order;
 mod run;
 mod step;
