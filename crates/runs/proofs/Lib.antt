@@ -7,3 +7,4 @@ pub mod Places
 pub mod Running
 pub mod Ordering
 pub mod Keeping
+pub mod Answering

@@ -6,3 +6,4 @@ pub mod Places
 pub mod Order
 pub mod Keep
 pub mod Totals
+pub mod Calls

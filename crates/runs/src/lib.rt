@@ -1,4 +1,5 @@
 // Plain greedy and PG on a trace: one run, two rules.
+pub mod calls;
 mod entry;
 mod keep;
 mod order;
