@@ -7,4 +7,5 @@ pub mod Places
 pub mod Running
 pub mod Ordering
 pub mod Keeping
+pub mod Planning
 pub mod Answering

@@ -5,5 +5,6 @@ pub mod Run
 pub mod Places
 pub mod Order
 pub mod Keep
+pub mod Plan
 pub mod Totals
 pub mod Calls

@@ -3,6 +3,7 @@ pub mod calls;
 mod entry;
 mod keep;
 mod order;
+mod plan;
 mod run;
 mod step;
 mod totals;
