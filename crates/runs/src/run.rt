@@ -13,7 +13,7 @@ use port::Port;
 use queue::Rule;
 
 // The places of the two lists that hold the queue: with twice the greatest room it moves to the start of its lists at most once in so many arrivals.
-const PLACES: usize = 2 * Port::ROOM;
+pub const PLACES: usize = 2 * Port::ROOM;
 
 // Writes the record of a rule's run, and answers the most held just after any arrival: the greatest length of the queue.
 pub fn run(
