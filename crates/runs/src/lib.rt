@@ -1,4 +1,4 @@
-// Plain greedy and PG on a trace: one run, two rules.
+// Plain greedy, PG and the offline plan on a trace.
 pub mod calls;
 mod entry;
 mod keep;
