@@ -1,19 +1,14 @@
+-- The run writes the record and answers the queue's greatest length, and the totals are counted from the record.
 use borrow.Author.Needs.{needs}
 use Rattle.model.specs.Course.{byRule}
 use Rattle.runs.specs.Plan.{planRule}
 use Rattle.runs.proofs.Answering.{all-written, countable, answered}
 use Rattle.runs.proofs.calls.finish_plan.Statement.{statement}
 use Rattle.runs.proofs.calls.finish_plan.Tie as tie
-use Rattle.runs.proofs.calls.finish_plan.Reads as reads
-use Rattle.runs.proofs.calls.finish_plan.Lts as lts
-use Rattle.runs.proofs.plan.run_plan.Reads as run-plan-reads
-use Rattle.runs.proofs.totals.totals.Reads as totals-reads
 
--- src/calls.rt:84:9
 run-plan-requires : tie.Need-run-plan-requires
 run-plan-requires c κs = search needs
 
--- src/calls.rt:85:20
 totals-requires : tie.Need-totals-requires
 totals-requires c κs =
     let start = c .before .before .before .before .before .before .before .before .before .before .before .before .before .before .before .before in
@@ -22,19 +17,15 @@ totals-requires c κs =
     let P = byRule (planRule (a .room) (a .slots .now) (a .values .now)) in
     countable P (a .slots .now) (a .values .now) _ (start .pre .0) _ (all-written P (a .slots .now) (a .values .now) _ (start .pre .0) _ (done .ensures .written))
 
--- src/calls.rt:72:1
 same-length : tie.Need-same-length
 same-length c = search needs
 
--- src/calls.rt:72:1
 same-length-2 : tie.Need-same-length-2
 same-length-2 c = search needs
 
--- src/calls.rt:72:1
 same-length-3 : tie.Need-same-length-3
 same-length-3 c = search needs
 
--- src/calls.rt:72:1
 returns : tie.Need-returns
 returns c =
     let start = c .before .before .before .before .before .before .before .before .before .before .before .before .before .before .before .before .before in

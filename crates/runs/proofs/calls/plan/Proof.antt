@@ -1,3 +1,4 @@
+-- A refusal of the test is the answer; an accepted trace is one on which the plan can run.
 use borrow.Author.Needs.{needs}
 use mathlib.Core.Path.{sym, ap, _∙_}
 use Rattle.model.specs.Calls.{planCall}
@@ -5,24 +6,16 @@ use Rattle.trace.specs.Checked.{verdictOf}
 use Rattle.runs.proofs.Answering.{refused, not-refused, plan-ready}
 use Rattle.runs.proofs.calls.plan.Statement.{statement}
 use Rattle.runs.proofs.calls.plan.Tie as tie
-use Rattle.runs.proofs.calls.plan.Reads as reads
-use Rattle.runs.proofs.calls.plan.Lts as lts
-use Rattle.runs.proofs.calls.finish_plan.Reads as finish-plan-reads
-use Rattle.trace.proofs.plain.Reads as plain-reads
 
--- src/calls.rt:99:9
 plain-requires : tie.Need-plain-requires
 plain-requires c κs = search needs
 
--- src/calls.rt:101:26
 enum-known-tested : tie.Need-enum-known-tested
 enum-known-tested c = search needs
 
--- src/calls.rt:102:63
 enum-told : tie.Need-enum-told
 enum-told c = search needs
 
--- src/calls.rt:102:30
 finish-plan-requires : tie.Need-finish-plan-requires
 finish-plan-requires c κs =
     let a = c .before .before .before .before .before .before .before .before .before .before .before .before .before .before .args in
@@ -30,38 +23,30 @@ finish-plan-requires c κs =
     let ready = plan-ready (a .slots .now) (a .values .now) (a .room) _ accepted in
     (ready .0, ready .1)
 
--- src/calls.rt:89:1
 same-length : tie.Need-same-length
 same-length c = search needs
 
--- src/calls.rt:89:1
 same-length-2 : tie.Need-same-length-2
 same-length-2 c = search needs
 
--- src/calls.rt:89:1
 same-length-3 : tie.Need-same-length-3
 same-length-3 c = search needs
 
--- src/calls.rt:89:1
 returns : tie.Need-returns
 unfolding planCall
 returns c =
     let told = c .before .tested in
     refused _ _ _ (told .given .0 .0) (ap verdictOf (sym (told .given .1)) ∙ c .before .before .before .plain .ensures)
 
--- src/calls.rt:89:1
 same-length-4 : tie.Need-same-length-4
 same-length-4 c = search needs
 
--- src/calls.rt:89:1
 same-length-5 : tie.Need-same-length-5
 same-length-5 c = search needs
 
--- src/calls.rt:89:1
 same-length-6 : tie.Need-same-length-6
 same-length-6 c = search needs
 
--- src/calls.rt:89:1
 returns-2 : tie.Need-returns-2
 unfolding planCall
 returns-2 c =

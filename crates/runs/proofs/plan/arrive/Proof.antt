@@ -1,3 +1,4 @@
+-- The entry of the kept list decides as the rule does.
 use borrow.Author.Needs.{needs}
 use Rattle.model.specs.Policies.Plan.{keptRule}
 use Rattle.queue.specs.declared.Choice.the-variants.{Hold, Reject}
@@ -6,33 +7,22 @@ use Rattle.runs.proofs.Arriving.{held as hold-steps, rejected as reject
 use Rattle.runs.proofs.Planning.{kept-holds, kept-rejects}
 use Rattle.runs.proofs.plan.arrive.Statement.{statement}
 use Rattle.runs.proofs.plan.arrive.Tie as tie
-use Rattle.runs.proofs.plan.arrive.Reads as reads
-use Rattle.runs.proofs.plan.arrive.Lts as lts
-use Rattle.runs.proofs.entry.enter.Reads as enter-reads
-use Rattle.runs.proofs.entry.place_of.Reads as place-of-reads
-use Rattle.runs.proofs.window.hold.Reads as hold-reads
 
--- src/plan.rt:43:9
 place-of-requires : tie.Need-place-of-requires
 place-of-requires c κs = search needs
 
--- src/plan.rt:44:8
 shared-slice-read-if1 : tie.Need-shared-slice-read-if1
 shared-slice-read-if1 c = search needs
 
--- src/plan.rt:45:9
 hold-requires : tie.Need-hold-requires
 hold-requires c κs = search needs
 
--- src/plan.rt:45:9
 same-length : tie.Need-same-length
 same-length c = search needs
 
--- src/plan.rt:45:9
 same-length-2 : tie.Need-same-length-2
 same-length-2 c = search needs
 
--- src/plan.rt:45:9
 returns : tie.Need-returns
 returns c =
     let start = c .before .before .before .before .before .before .before .before .before .before .before .before .before .before .before .before in
@@ -44,23 +34,18 @@ returns c =
     (held .result) (held .last .0) (held .last .1 .0) _
     (hold-steps (a .w) (a .numbers .now) (a .values .now) (start .pre .0) (a .slot) (a .p) _ (held .result) (held .last .0) (held .last .1 .0) (held .ensures))
 
--- src/plan.rt:47:5
 enter-requires : tie.Need-enter-requires
 enter-requires c κs = search needs
 
--- src/plan.rt:27:1
 same-length-3 : tie.Need-same-length-3
 same-length-3 c = search needs
 
--- src/plan.rt:27:1
 same-length-4 : tie.Need-same-length-4
 same-length-4 c = search needs
 
--- src/plan.rt:27:1
 same-length-5 : tie.Need-same-length-5
 same-length-5 c = search needs
 
--- src/plan.rt:27:1
 returns-2 : tie.Need-returns-2
 returns-2 c =
     let start = c .before .before .before .before .before .before .before .before .before .before .before .before .before .before .before .before .before .before .before in

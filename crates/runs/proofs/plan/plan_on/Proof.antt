@@ -1,20 +1,14 @@
+-- The order is the plan's, so what is kept is the plan's, and the run is that of its rule.
 use borrow.Author.Needs.{needs}
 use mathlib.Core.Path.{_≡_, _∙_}
 use native.Mathlib.Omega.{arith}
 use Rattle.runs.proofs.Planning.{plan-keepable, plan-runnable, plan-ran}
 use Rattle.runs.proofs.plan.plan_on.Statement.{statement}
 use Rattle.runs.proofs.plan.plan_on.Tie as tie
-use Rattle.runs.proofs.plan.plan_on.Reads as reads
-use Rattle.runs.proofs.plan.plan_on.Lts as lts
-use Rattle.runs.proofs.keep.keep_in_turn.Reads as keep-in-turn-reads
-use Rattle.runs.proofs.order.by_falling_value.Reads as by-falling-value-reads
-use Rattle.runs.proofs.plan.run.Reads as run-reads
 
--- src/plan.rt:149:5
 by-falling-value-requires : tie.Need-by-falling-value-requires
 by-falling-value-requires c κs = search needs
 
--- src/plan.rt:150:5
 keep-in-turn-requires : tie.Need-keep-in-turn-requires
 keep-in-turn-requires c κs =
     let start = c .before .before .before .before .before .before .before .before .before .before .before .before .before in
@@ -24,7 +18,6 @@ keep-in-turn-requires c κs =
       λ k h. omega (arith, ordered .ensures .inside k h, start .pre .0 .same),
     )
 
--- src/plan.rt:151:5
 run-requires : tie.Need-run-requires
 run-requires c κs =
     let start = c .before .before .before .before .before .before .before .before .before .before .before .before .before .before .before .before .before .before .before .before in
@@ -35,27 +28,21 @@ run-requires c κs =
       taken .kept .1 .1 .1 .0 ∙ plan-keepable (a .room) (a .slots .now) (a .values .now) (start .pre .0) (a .kept .now) (start .pre .1 .1) .same,
     )
 
--- src/plan.rt:134:1
 same-length : tie.Need-same-length
 same-length c = search needs
 
--- src/plan.rt:134:1
 same-length-2 : tie.Need-same-length-2
 same-length-2 c = search needs
 
--- src/plan.rt:134:1
 same-length-3 : tie.Need-same-length-3
 same-length-3 c = search needs
 
--- src/plan.rt:134:1
 same-length-4 : tie.Need-same-length-4
 same-length-4 c = search needs
 
--- src/plan.rt:134:1
 same-length-5 : tie.Need-same-length-5
 same-length-5 c = search needs
 
--- src/plan.rt:134:1
 returns : tie.Need-returns
 returns c =
     let start = c .before .before .before .before .before .before .before .before .before .before .before .before .before .before .before .before .before .before .before .before .before .before .before .before .before .before .before in

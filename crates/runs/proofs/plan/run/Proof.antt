@@ -1,3 +1,4 @@
+-- The loop of every run, under the rule of the kept packets.
 use borrow.Author.Needs.{needs}
 use Prim.Native.Nat.{max, _-_}
 use mathlib.Core.Path.{_≡_, refl, _∙_}
@@ -9,10 +10,6 @@ use Rattle.runs.specs.Entry.{lists}
 use Rattle.runs.proofs.Running.{Going, going-start, going-free, most-fits, going-turn, going-end}
 use Rattle.runs.proofs.plan.run.Statement.{statement}
 use Rattle.runs.proofs.plan.run.Tie as tie
-use Rattle.runs.proofs.plan.run.Reads as reads
-use Rattle.runs.proofs.plan.run.Lts as lts
-use Rattle.runs.proofs.plan.take.Reads as take-reads
-use Rattle.runs.proofs.step.send_until.Reads as send-until-reads
 
 abbrev Inv-loop : tie.InvT-loop
 Inv-loop slots values kept fates₀ whens₀ bys₀ numbers₀ held₀ head₀ tail₀ last₀ most₀ i₀ fates whens bys numbers held head tail last most i =
@@ -25,45 +22,35 @@ abbrev μ-loop : tie.MeasureT-loop
 μ-loop slots values kept fates₀ whens₀ bys₀ numbers₀ held₀ head₀ tail₀ last₀ most₀ i₀ fates whens bys numbers held head tail last most i =
     length slots - i
 
--- src/plan.rt:93:5
 loop-holds : tie.Need-loop-holds Inv-loop μ-loop
 loop-holds c =
     let a = c .before .before .before .before .before .before .args in
     (refl, refl, refl, going-start (keptRule (a .kept .now)) (a .slots .now) (a .values .now) _ _ _ (search needs) (search needs))
 
--- src/plan.rt:94:20
 mul-slot : tie.Need-mul-slot Inv-loop μ-loop
 mul-slot c = search needs
 
--- src/plan.rt:94:20
 shared-slice-read-slot : tie.Need-shared-slice-read-slot Inv-loop μ-loop
 shared-slice-read-slot c = search needs
 
--- src/plan.rt:96:35
 add-t17 : tie.Need-add-t17 Inv-loop μ-loop
 add-t17 c = search needs
 
--- src/plan.rt:96:34
 cast-t20 : tie.Need-cast-t20 Inv-loop μ-loop
 cast-t20 c = search needs
 
--- src/plan.rt:97:20
 mul-t22 : tie.Need-mul-t22 Inv-loop μ-loop
 mul-t22 c = search needs
 
--- src/plan.rt:97:20
 shared-slice-read-t24 : tie.Need-shared-slice-read-t24 Inv-loop μ-loop
 shared-slice-read-t24 c = search needs
 
--- src/plan.rt:100:13
 slice-aggregate-take : tie.Need-slice-aggregate-take Inv-loop μ-loop
 slice-aggregate-take c = search needs
 
--- src/plan.rt:101:13
 slice-aggregate-take-2 : tie.Need-slice-aggregate-take-2 Inv-loop μ-loop
 slice-aggregate-take-2 c = search needs
 
--- src/plan.rt:99:13
 take-requires : tie.Need-take-requires Inv-loop μ-loop
 take-requires c κs =
     let start = c .before .before .before .before .before .before .before .before .before .before .before .before .before .before .before in
@@ -75,23 +62,18 @@ take-requires c κs =
       ),
     )
 
--- src/plan.rt:113:19
 sub-if1 : tie.Need-sub-if1 Inv-loop μ-loop
 sub-if1 c = search needs
 
--- src/plan.rt:114:20
 sub-most : tie.Need-sub-most Inv-loop μ-loop
 sub-most c = search needs
 
--- src/plan.rt:117:9
 add-i : tie.Need-add-i Inv-loop μ-loop
 add-i c = search needs
 
--- src/plan.rt:93:5
 loop-less : tie.Need-loop-less Inv-loop μ-loop
 loop-less c = search needs
 
--- src/plan.rt:93:5
 loop-again : tie.Need-loop-again Inv-loop μ-loop
 loop-again c =
     let start = c .before .before .before .before .before .before .before .before .before .before .before .before .before .before .before .before .before .before .before .before .before .before .before .before .before in
@@ -106,47 +88,36 @@ loop-again c =
           (loop .loop .i) _ (loop .loop .inv .3) (c .before .before .before .before .before .before .before .before .before .before .before .before .before .before .before .before .before .loop-test .taken) (taken .result) (taken .last .0) (taken .last .1 .0) _ (c .if1 .most) (taken .ensures) (taken .kept .1 .0) most,
     )
 
--- src/plan.rt:120:9
 slice-aggregate-send-until : tie.Need-slice-aggregate-send-until Inv-loop μ-loop
 slice-aggregate-send-until c = search needs
 
--- src/plan.rt:121:9
 slice-aggregate-send-until-2 : tie.Need-slice-aggregate-send-until-2 Inv-loop μ-loop
 slice-aggregate-send-until-2 c = search needs
 
--- src/plan.rt:127:22
 sub-t51 : tie.Need-sub-t51 Inv-loop μ-loop
 sub-t51 c = search needs
 
--- src/plan.rt:127:21
 cast-t52 : tie.Need-cast-t52 Inv-loop μ-loop
 cast-t52 c = search needs
 
--- src/plan.rt:127:14
 add-t53 : tie.Need-add-t53 Inv-loop μ-loop
 add-t53 c = search needs
 
--- src/plan.rt:119:5
 send-until-requires : tie.Need-send-until-requires Inv-loop μ-loop
 send-until-requires c κs = search needs
 
--- src/plan.rt:129:5
 cast-result : tie.Need-cast-result Inv-loop μ-loop
 cast-result c = search needs
 
--- src/plan.rt:74:1
 same-length : tie.Need-same-length Inv-loop μ-loop
 same-length c = search needs
 
--- src/plan.rt:74:1
 same-length-2 : tie.Need-same-length-2 Inv-loop μ-loop
 same-length-2 c = search needs
 
--- src/plan.rt:74:1
 same-length-3 : tie.Need-same-length-3 Inv-loop μ-loop
 same-length-3 c = search needs
 
--- src/plan.rt:74:1
 returns : tie.Need-returns Inv-loop μ-loop
 returns c =
     let start = c .before .before .before .before .before .before .before .before .before .before .before .before .before .before .before .before .before .before .before .before in

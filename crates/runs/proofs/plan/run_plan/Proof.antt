@@ -1,3 +1,4 @@
+-- The lent parts are as long as the trace, and no packet is kept in them yet.
 use borrow.Author.Needs.{needs}
 use mathlib.Core.Path.{_≡_, sym}
 use lib.ListN.{length}
@@ -6,50 +7,38 @@ use Rattle.model.specs.Limits.{recordLimits}
 use Rattle.runs.proofs.Planning.{none-kept}
 use Rattle.runs.proofs.plan.run_plan.Statement.{statement}
 use Rattle.runs.proofs.plan.run_plan.Tie as tie
-use Rattle.runs.proofs.plan.run_plan.Reads as reads
-use Rattle.runs.proofs.plan.run_plan.Lts as lts
-use Rattle.runs.proofs.plan.plan_on.Reads as plan-on-reads
 
--- src/plan.rt:173:9
 array-borrow-prefix-order : tie.Need-array-borrow-prefix-order
 array-borrow-prefix-order c = search needs
 
--- src/plan.rt:173:9
 slice-aggregate-plan-on : tie.Need-slice-aggregate-plan-on
 slice-aggregate-plan-on c =
     let start = c .before .before .before .before .before .before in
     sym (length-take-le (length (start .args .slots .now)) _ (start .pre .few))
 
--- src/plan.rt:174:9
 array-borrow-prefix-kept : tie.Need-array-borrow-prefix-kept
 array-borrow-prefix-kept c = search needs
 
--- src/plan.rt:174:9
 slice-aggregate-plan-on-2 : tie.Need-slice-aggregate-plan-on-2
 slice-aggregate-plan-on-2 c =
     let start = c .before .before .before .before .before .before .before in
     sym (length-take-le (length (start .args .slots .now)) _ (start .pre .few))
 
--- src/plan.rt:169:5
 plan-on-requires : tie.Need-plan-on-requires
 plan-on-requires c κs =
     let start = c .before .before .before .before .before .before .before .before .before .before in
     let n = length (start .args .slots .now) in
     (start .pre, (length-take-le n _ (start .pre .few), none-kept n (recordLimits .packets) (start .pre .few)))
 
--- src/plan.rt:155:1
 same-length : tie.Need-same-length
 same-length c = search needs
 
--- src/plan.rt:155:1
 same-length-2 : tie.Need-same-length-2
 same-length-2 c = search needs
 
--- src/plan.rt:155:1
 same-length-3 : tie.Need-same-length-3
 same-length-3 c = search needs
 
--- src/plan.rt:155:1
 returns : tie.Need-returns
 returns c = search needs
 

@@ -1,3 +1,4 @@
+-- The sendings and the arrival are one turn of the course.
 use borrow.Author.Needs.{needs}
 use Rattle.model.specs.Policies.Plan.{keptRule}
 use Rattle.runs.specs.Window.{windowOf}
@@ -5,16 +6,10 @@ use Rattle.runs.specs.Step.{arrival}
 use Rattle.runs.proofs.Turning.{sent-free, turned}
 use Rattle.runs.proofs.plan.take.Statement.{statement}
 use Rattle.runs.proofs.plan.take.Tie as tie
-use Rattle.runs.proofs.plan.take.Reads as reads
-use Rattle.runs.proofs.plan.take.Lts as lts
-use Rattle.runs.proofs.plan.arrive.Reads as arrive-reads
-use Rattle.runs.proofs.step.send_until.Reads as send-until-reads
 
--- src/plan.rt:69:9
 send-until-requires : tie.Need-send-until-requires
 send-until-requires c κs = search needs
 
--- src/plan.rt:70:5
 arrive-requires : tie.Need-arrive-requires
 arrive-requires c κs =
     let start = c .before .before .before .before .before .before .before .before .before .before .before .before .before .before .before .before .before .before .before .before .before .before .before in
@@ -24,27 +19,21 @@ arrive-requires c κs =
       (sent-free (a .before) (a .slot) (a .w) (a .numbers .now) (a .values .now) _ _ (sent .result) (start .pre .0) (start .pre .1 .0) (sent .ensures), start .pre .1 .1),
     )
 
--- src/plan.rt:52:1
 same-length : tie.Need-same-length
 same-length c = search needs
 
--- src/plan.rt:52:1
 same-length-2 : tie.Need-same-length-2
 same-length-2 c = search needs
 
--- src/plan.rt:52:1
 same-length-3 : tie.Need-same-length-3
 same-length-3 c = search needs
 
--- src/plan.rt:52:1
 same-length-4 : tie.Need-same-length-4
 same-length-4 c = search needs
 
--- src/plan.rt:52:1
 same-length-5 : tie.Need-same-length-5
 same-length-5 c = search needs
 
--- src/plan.rt:52:1
 returns : tie.Need-returns
 returns c =
     let start = c .before .before .before .before .before .before .before .before .before .before .before .before .before .before .before .before .before .before .before .before .before .before .before .before .before .before .before .before .before .before .before .before .before .before in
