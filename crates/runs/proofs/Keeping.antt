@@ -1,5 +1,5 @@
 -- Why what is kept is the plan's: the pass over the packets counts what `fitsFrom` counts, and each packet of the order is tried as `keepInTurn` does.
-use Prim.Native.Nat.{ℕ, zero, suc, _+_, _-_, _≤_, _<_}
+use Prim.Native.Nat.{ℕ, _+_, _-_, _≤_, _<_}
 use mathlib.Core.Path.{_≡_, refl, sym, ap, _∙_}
 use mathlib.Core.Bool.{Bool, true, false, cond, _&&_}
 use mathlib.Core.List.{List, [], _∷_}
@@ -9,11 +9,9 @@ use lib.ListN.{length, getD, set, drop, drop-of-length-le}
 use lib.Seq.{drop-cons, set-set, set-getD}
 use lib.Dec.{leb}
 use borrow.Author.Tests.{le-leb, lt-leb}
-use Rattle.model.specs.Limits.{portLimits}
-use Rattle.model.specs.Packets.{Arrival, arrivals}
-use Rattle.model.specs.Course.{first}
+use Rattle.model.specs.Packets.{arrivals}
 use Rattle.model.specs.Policies.Plan.{fitsFrom, fits, keepInTurn}
-use Rattle.runs.specs.Places.{packetAt, packetsAt}
+use Rattle.runs.specs.Places.{packetsAt}
 use Rattle.runs.specs.Keep.{Keepable, Fitting, TakenInTurn}
 use Rattle.runs.proofs.Places.{arrivals-at, arrivals-length}
 

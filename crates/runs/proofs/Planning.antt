@@ -1,7 +1,7 @@
 -- Why the plan's run is the run of its rule: a packet is held or rejected as its entry in the kept list says, and that list is the plan's.
-use Prim.Native.Nat.{ℕ, zero, suc, _+_, _-_, _≤_, _<_}
+use Prim.Native.Nat.{ℕ, zero, suc, _≤_}
 use mathlib.Core.Path.{_≡_, refl, sym, ap, subst, _∙_}
-use mathlib.Core.List.{List, [], _∷_}
+use mathlib.Core.List.{List, _∷_}
 use native.Mathlib.Omega.{arith}
 use lib.ListN.{length, getD, take, replicate, length-replicate}
 use borrow.Author.Tests.{ne-eqb}
@@ -13,7 +13,7 @@ use Rattle.laws.proofs.Room.{mostQueue-plan}
 use Rattle.queue.specs.declared.Choice.the-variants.{Hold, Reject}
 use Rattle.queue.specs.Choose.{applied}
 use Rattle.runs.specs.Places.{packetsAt}
-use Rattle.runs.specs.Order.{Inside, OrderedFrom}
+use Rattle.runs.specs.Order.{OrderedFrom}
 use Rattle.runs.specs.Keep.{Keepable, TakenInTurn}
 use Rattle.runs.specs.Run.{Runnable, Ran}
 use Rattle.runs.specs.Plan.{planRule, Plannable}

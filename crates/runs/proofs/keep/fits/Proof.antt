@@ -1,6 +1,6 @@
 -- The loop counts what `fitsFrom` counts, packet by packet; `last` is never past the next slot, since slots never go down.
 use borrow.Author.Needs.{needs}
-use Prim.Native.Nat.{_+_, _-_, _≤_}
+use Prim.Native.Nat.{_-_, _≤_}
 use mathlib.Core.Path.{_≡_}
 use mathlib.Core.Logic.{⊎-elim}
 use native.Mathlib.Omega.{arith}

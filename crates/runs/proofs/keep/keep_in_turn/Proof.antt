@@ -1,9 +1,9 @@
 -- What is left of the order, taken in turn from what is kept now, gives what the whole order gives.
 use borrow.Author.Needs.{needs}
-use Prim.Native.Nat.{_-_, _<_}
+use Prim.Native.Nat.{_-_}
 use mathlib.Core.Path.{_≡_, refl, _∙_}
 use native.Mathlib.Omega.{arith}
-use lib.ListN.{length, getD}
+use lib.ListN.{length}
 use Rattle.runs.proofs.Keeping.{Turning, turning-start, turning-next, turning-end}
 use Rattle.runs.proofs.keep.keep_in_turn.Statement.{statement}
 use Rattle.runs.proofs.keep.keep_in_turn.Tie as tie

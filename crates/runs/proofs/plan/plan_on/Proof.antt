@@ -1,6 +1,6 @@
 -- The order is the plan's, so what is kept is the plan's, and the run is that of its rule.
 use borrow.Author.Needs.{needs}
-use mathlib.Core.Path.{_≡_, _∙_}
+use mathlib.Core.Path.{_∙_}
 use native.Mathlib.Omega.{arith}
 use Rattle.runs.proofs.Planning.{plan-keepable, plan-runnable, plan-ran}
 use Rattle.runs.proofs.plan.plan_on.Statement.{statement}

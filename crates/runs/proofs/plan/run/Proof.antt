@@ -7,7 +7,7 @@ use native.Mathlib.Omega.{arith}
 use lib.ListN.{length}
 use Rattle.model.specs.Policies.Plan.{keptRule}
 use Rattle.runs.specs.Entry.{lists}
-use Rattle.runs.proofs.Running.{Going, going-start, going-free, most-fits, going-turn, going-end}
+use Rattle.runs.proofs.Running.{Going, going-start, going-free, going-turn, going-end}
 use Rattle.runs.proofs.plan.run.Statement.{statement}
 use Rattle.runs.proofs.plan.run.Tie as tie
 

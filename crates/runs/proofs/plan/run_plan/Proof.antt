@@ -1,6 +1,6 @@
 -- The lent parts are as long as the trace, and no packet is kept in them yet.
 use borrow.Author.Needs.{needs}
-use mathlib.Core.Path.{_≡_, sym}
+use mathlib.Core.Path.{sym}
 use lib.ListN.{length}
 use lib.Seq.{length-take-le}
 use Rattle.model.specs.Limits.{recordLimits}
