@@ -2,5 +2,9 @@ pub mod Entry
 pub mod Window
 pub mod Step
 pub mod Run
+pub mod Places
+pub mod Order
+pub mod Keep
+pub mod Plan
 pub mod Totals
 pub mod Calls

@@ -18,7 +18,7 @@ fn put(list: &mut [u32], place: usize, number: u32)
 }
 
 // The place in a list of the packet with this number.
-fn place_of(number: PacketNumber) -> usize
+pub fn place_of(number: PacketNumber) -> usize
     ensures { λ r. ⌜ r ≡ placeOf number ⌝ }
 {
     let n = number.0;

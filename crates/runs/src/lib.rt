@@ -1,6 +1,9 @@
-// Plain greedy and PG on a trace: one run, two rules.
+// Plain greedy, PG and the offline plan on a trace.
 pub mod calls;
 mod entry;
+mod keep;
+mod order;
+mod plan;
 mod run;
 mod step;
 mod totals;
