@@ -80,9 +80,7 @@ pub fn run() -> (u64, Vec<String>) {
     c.check("P1 audit", audit(&[], &[], 1, empty), passed);
 
     // P2, P3, P4 greedy, room 2.
-    let greedy_2 = |slots: &[u64], values: &[u64], record: &mut Record| {
-        greedy(slots, values, 2, record) //
-    };
+    let greedy_2 = |s: &[u64], v: &[u64], out: &mut Record| greedy(s, v, 2, out);
     let p2 = vec![(1, 1, 0), (1, 2, 0), (2, 1, 3)];
     c.check("P2", in_slot_1(&[3, 3, 3], greedy_2), p2.clone());
     let p3 = vec![(3, 1, 3), (1, 1, 0), (1, 2, 0)];
@@ -91,23 +89,17 @@ pub fn run() -> (u64, Vec<String>) {
     c.check("P4", in_slot_1(&[2, 2, 5], greedy_2), p4);
 
     // P5, P6 PG, beta 3/1, room 4. P7 PG, beta 2/1, room 3.
-    let pg_3_1 = |slots: &[u64], values: &[u64], record: &mut Record| {
-        pg(slots, values, 4, (3, 1), record) //
-    };
+    let pg_3_1 = |s: &[u64], v: &[u64], out: &mut Record| pg(s, v, 4, (3, 1), out);
     let p5 = vec![(4, 1, 2), (1, 1, 0)];
     c.check("P5", in_slot_1(&[2, 6], pg_3_1), p5);
     let p6 = vec![(1, 1, 0), (1, 2, 0)];
     c.check("P6", in_slot_1(&[2, 5], pg_3_1), p6);
-    let pg_2_1 = |slots: &[u64], values: &[u64], record: &mut Record| {
-        pg(slots, values, 3, (2, 1), record) //
-    };
+    let pg_2_1 = |s: &[u64], v: &[u64], out: &mut Record| pg(s, v, 3, (2, 1), out);
     let p7 = vec![(4, 1, 3), (1, 1, 0), (1, 2, 0)];
     c.check("P7", in_slot_1(&[2, 1, 4], pg_2_1), p7);
 
     // P8 MF, lo 1, hi 4, r 1, room 3.
-    let mf_1_4 = |slots: &[u64], values: &[u64], record: &mut Record| {
-        mf(slots, values, 3, (1, 4, 1), record) //
-    };
+    let mf_1_4 = |s: &[u64], v: &[u64], out: &mut Record| mf(s, v, 3, (1, 4, 1), out);
     let p8 = vec![(5, 1, 2), (1, 1, 0)];
     c.check("P8", in_slot_1(&[1, 4], mf_1_4), p8);
 
@@ -183,4 +175,17 @@ pub fn run() -> (u64, Vec<String>) {
 fn numbers_checked_by_hand() {
     let (_, differing) = run();
     assert_eq!(differing, Vec::<String>::new());
+}
+
+#[test]
+fn refusals_the_random_cases_never_meet() {
+    let (lo, hi) = (1, 3);
+    let ours = mf(&[1, 1], &[1, 2], 1, (lo, hi, 0), &mut fresh(2));
+    assert_eq!(ours, refused(6, 2));
+    let ours = mf(&[1], &[1], 1, (lo, 65_536, 0), &mut fresh(1));
+    assert_eq!(ours, refused(4, 0));
+    let mut longer = fresh(1);
+    longer.whens.push(7);
+    assert_eq!(plan(&[1], &[1], 1, &mut longer), refused(1, 0));
+    assert_eq!(audit(&[1], &[1], 1, &longer), refused(1, 0));
 }

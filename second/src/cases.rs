@@ -520,6 +520,19 @@ mod tests {
         }
     }
 
+    /// The worked case of CASES.md.
+    #[test]
+    fn the_worked_case() {
+        let calls = calls(484);
+        let mut h = 1;
+        for x in &calls[0].numbers {
+            h = (h * 1_000_003 + x + 1) % 2_147_483_647;
+        }
+        assert_eq!((calls[0].numbers.len(), h), (33, 1_048_457_815));
+        let numbers: usize = calls.iter().map(|call| call.numbers.len()).sum();
+        assert_eq!(numbers, 299);
+    }
+
     /// The port's sent packets and losses are those of PG on the same trace.
     #[test]
     fn the_port_does_as_pg() {

@@ -2,7 +2,11 @@
 //! alone it was written. It shares nothing with the proved crates.
 
 #![forbid(unsafe_code)]
-#![allow(clippy::needless_range_loop, clippy::manual_range_contains)]
+#![allow(
+    clippy::manual_find,
+    clippy::manual_range_contains,
+    clippy::needless_range_loop
+)]
 
 mod byhand;
 mod cases;
