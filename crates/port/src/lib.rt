@@ -139,14 +139,14 @@ impl Port {
     {
         let sound = self.is_sound();
         let in_range = value_ok(value);
-        let spent = Port::NUMBER <= self.last.0;
+        let left = self.last.0 < Port::NUMBER;
         if !sound {
             return self.refuse(Cause::Unsound);
         }
         if !in_range {
             return self.refuse(Cause::Value);
         }
-        if spent {
+        if !left {
             return self.refuse(Cause::Spent);
         }
         self.accept(value)
@@ -184,9 +184,10 @@ impl Port {
     fn refuse(self, cause: Cause) -> PortArrival
         ensures { λ r. ⌜ arrivalOf r ≡ refusing (causeNumber cause) (stateOf self) ⌝ }
     {
+        let refusal = Refusal { cause, place: 0 };
         PortArrival {
             port: self,
-            answer: ArrivalAnswer::Refused(Refusal { cause, place: 0 }),
+            answer: ArrivalAnswer::Refused(refusal),
         }
     }
 

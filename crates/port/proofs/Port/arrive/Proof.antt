@@ -1,7 +1,7 @@
 -- `port::Port::arrive` meets its contract: 8, then 6, then 7, and else the arrival is accepted.
 use mathlib.Core.Path.{_≡_, sym, _∙_}
 use mathlib.Core.Bool.{true}
-use borrow.Author.Tests.{not-true, not-false, leb-true, leb-false}
+use borrow.Author.Tests.{not-true, not-false, ltb-true, ltb-false}
 use Rattle.model.specs.Refusals.{valueOk}
 use Rattle.model.specs.Port.{sound}
 use Rattle.port.specs.State.{stateOf}
@@ -47,10 +47,10 @@ returns-3 : tie.Need-returns-3
 returns-3 c =
     let a = c .before .before .before .before .before .before .before .args in
     c .refuse3 .ensures
-    ∙ arrival-spent (stateOf (a .self)) (a .value) (sounds (c .before .before .before)) (in-range (c .before .before)) (leb-true _ _ (c .before .if3 .taken))
+    ∙ arrival-spent (stateOf (a .self)) (a .value) (sounds (c .before .before .before)) (in-range (c .before .before)) (ltb-false _ _ (not-true _ (c .before .if3 .taken)))
 
 accept-requires : tie.Need-accept-requires
-accept-requires c κs = (sounds (c .before .before), (in-range (c .before), leb-false _ _ (c .if3 .left)))
+accept-requires c κs = (sounds (c .before .before), (in-range (c .before), ltb-true _ _ (not-false _ (c .if3 .left))))
 
 returns-4 : tie.Need-returns-4
 returns-4 c = search needs

@@ -1,3 +1,4 @@
+-- `port::checks::all_zero` meets its contract: what is left of the list passes as the whole list does, until a place that is not zero.
 use Prim.Native.Nat.{_≤_, _-_}
 use mathlib.Core.Path.{_≡_, refl, sym, _∙_}
 use native.Mathlib.Omega.{arith}

@@ -1,3 +1,4 @@
+-- `port::checks::numbers_rise` meets its contract: what is left of the numbers rises from the one before as all rise from 0.
 use Prim.Native.Nat.{_≤_, _-_}
 use mathlib.Core.Path.{_≡_, refl, sym, _∙_}
 use native.Mathlib.Omega.{arith}

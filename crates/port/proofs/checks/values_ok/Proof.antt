@@ -1,3 +1,4 @@
+-- `port::checks::values_ok` meets its contract: what is left of the list passes as the whole list does, until a value that is out of range.
 use Prim.Native.Nat.{_≤_, _-_}
 use mathlib.Core.Path.{_≡_, refl, sym, _∙_}
 use native.Mathlib.Omega.{arith}
