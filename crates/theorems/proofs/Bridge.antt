@@ -16,7 +16,8 @@ use Rattle.model.specs.Course.{Decided, runBy, first}
 use Rattle.laws.proofs.Times.{times, timesEntered, timesHeld}
 use Rattle.laws.proofs.Fifo.{Fair, fifo-byRule}
 use Rattle.laws.proofs.Conserving.{conserving}
-use Rattle.laws.proofs.Entered.{eqb-cases, entryOf, rowsBy, rows-said}
+use Rattle.laws.proofs.Cases.{eqb-cases}
+use Rattle.laws.proofs.Entered.{entryOf, rowsBy, rows-said}
 use Rattle.laws.proofs.Standing.{Comes}
 use Rattle.laws.proofs.WellFormed.{course-once}
 use Rattle.theorems.specs.Demand3.{sentAtLeast, rowsRun}

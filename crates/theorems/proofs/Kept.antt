@@ -12,7 +12,7 @@ use borrow.Author.Tests.{eqb-true, eqb-false}
 use Rattle.model.specs.Packets.{Arrival}
 use Rattle.model.specs.Course.{first}
 use Rattle.model.specs.Policies.Plan.{fits, keepInTurn}
-use Rattle.laws.proofs.Entered.{eqb-cases}
+use Rattle.laws.proofs.Cases.{eqb-cases}
 use Rattle.theorems.proofs.Each.{Each}
 use Rattle.theorems.proofs.Fits.{placeIn, Fits, setOf, true-fits, fits-true, fits-less, more}
 

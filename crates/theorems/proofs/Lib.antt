@@ -16,3 +16,4 @@ pub mod Kept
 pub mod PlanSends
 pub mod Demand3
 pub mod Answered
+pub mod PlainMF

@@ -13,7 +13,7 @@ use Rattle.model.specs.declared.Packet.{Packet}
 use Rattle.model.specs.Packets.{Arrival, arrivals, arrivalsFrom, slotsUntil}
 use Rattle.model.specs.Course.{Decided, held, rejected, first}
 use Rattle.model.specs.Policies.Plan.{byFallingValue, keepInTurn, planKept, keptRule}
-use Rattle.laws.proofs.Entered.{eqb-cases}
+use Rattle.laws.proofs.Cases.{eqb-cases}
 use Rattle.theorems.proofs.Trace.{length-arrivals}
 use Rattle.theorems.proofs.Each.{Each, each-map}
 use Rattle.theorems.proofs.Queue.{hi, hiIn, hi-append}
