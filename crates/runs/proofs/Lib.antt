@@ -5,3 +5,4 @@ pub mod Turning
 pub mod Running
 pub mod Counting
 pub mod Answering
+pub mod Marking

@@ -4,3 +4,4 @@ pub mod Step
 pub mod Run
 pub mod Totals
 pub mod Calls
+pub mod Mark

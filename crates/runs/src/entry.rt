@@ -9,7 +9,7 @@ use model::PacketNumber;
 use model::Slot;
 
 // The list with a number at a place; unchanged where it has no such place.
-fn put(list: &mut [u32], place: usize, number: u32)
+pub fn put(list: &mut [u32], place: usize, number: u32)
     ensures { λ _. ⌜ now (list .exit) ≡ set (now (list .entry)) place number ⌝ }
 {
     if place < list.len() {
@@ -18,7 +18,7 @@ fn put(list: &mut [u32], place: usize, number: u32)
 }
 
 // The place in a list of the packet with this number.
-fn place_of(number: PacketNumber) -> usize
+pub fn place_of(number: PacketNumber) -> usize
     ensures { λ r. ⌜ r ≡ placeOf number ⌝ }
 {
     let n = number.0;
