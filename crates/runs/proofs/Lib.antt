@@ -6,3 +6,4 @@ pub mod Running
 pub mod Counting
 pub mod Answering
 pub mod Marking
+pub mod Flushing

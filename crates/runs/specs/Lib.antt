@@ -5,3 +5,4 @@ pub mod Run
 pub mod Totals
 pub mod Calls
 pub mod Mark
+pub mod Flush

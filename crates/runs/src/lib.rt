@@ -1,6 +1,7 @@
 // Plain greedy and PG on a trace: one run, two rules.
 pub mod calls;
 mod entry;
+mod flush;
 mod mark;
 mod run;
 mod step;
