@@ -7,3 +7,5 @@ pub mod Counting
 pub mod Answering
 pub mod Marking
 pub mod Flushing
+pub mod Ending
+pub mod Finishing

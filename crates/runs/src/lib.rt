@@ -3,6 +3,7 @@ pub mod calls;
 mod entry;
 mod flush;
 mod mark;
+mod mf;
 mod run;
 mod step;
 mod totals;
