@@ -28,12 +28,13 @@ use Rattle.model.specs.Refusals.{valueOk, traceRefusal, plainRefusal, pgRefusal
 use Rattle.model.specs.Answers.{causeNumber}
 use Rattle.model.specs.Calls.{Outcome, replyTo, ran, runUnless}
 use Rattle.laws.proofs.Entered.{Sized, recorded}
-use Rattle.laws.proofs.WellFormed.{WellFormed, wellFormed-greedy, wellFormed-pg}
-use Rattle.laws.proofs.Lawful.{Lawful, lawful-greedy, lawful-pg}
+use Rattle.laws.proofs.WellFormed.{WellFormed, wellFormed-greedy, wellFormed-pg, wellFormed-plan}
+use Rattle.laws.proofs.Lawful.{Lawful, lawful-greedy, lawful-pg, lawful-plan}
 use Rattle.laws.proofs.Held.{mostQueue}
 use Rattle.trace.specs.Tested.{Tested}
 use Rattle.trace.proofs.Accepted.{accepted, within-to}
 use Rattle.runs.specs.Totals.{countIn, sumIn, Countable, tallyBy, totalsBy}
+use Rattle.runs.specs.Plan.{planRule, Plannable}
 use Rattle.runs.specs.Calls.{outcome, Ready}
 use Rattle.runs.proofs.Counting.{fate-six}
 
@@ -171,3 +172,19 @@ module _ (slots values : List ℕ) (room : ℕ) (lists : Lists) where
       let zero-number : pgRefusal beta slots values room lists .number ≡ 0 = ap (λ (v : Verdict). v .number) (sym e) in
       let T = accepted (betaRefusal beta) valueOk slots values room lists zero-number in
       ready (byRule (pgRule room beta)) slots values room lists T (wellFormed-pg slots values (T .values-length) room beta) (lawful-pg slots values room lists beta zero-number)
+
+  pub plan-ready : clear ≡ plainRefusal slots values room lists → Ready (byRule (planRule room slots values)) slots values lists × Plannable room slots values
+  unfolding plainRefusal
+  plan-ready e =
+      let zero-number : plainRefusal slots values room lists .number ≡ 0 = ap (λ (v : Verdict). v .number) (sym e) in
+      let T = accepted clear valueOk slots values room lists zero-number in (
+        ready (byRule (planRule room slots values)) slots values room lists T (wellFormed-plan slots values (T .values-length) room) (lawful-plan slots values room lists zero-number),
+        record {
+          same = T .values-length;
+          few = T .few;
+          room-to = T .room-to;
+          slot-from = T .packets .slot-from;
+          slots-fit = T .packets .slot-to;
+          sorted = T .packets .sorted;
+        },
+      )

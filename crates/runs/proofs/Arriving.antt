@@ -27,7 +27,7 @@ use Rattle.queue.proofs.Packets.{packets-values, packets-length, packets-at}
 use Rattle.runs.specs.declared.window.Window.{Window}
 use Rattle.runs.specs.Entry.{entry}
 use Rattle.runs.specs.Window.{part, windowOf, Within, Holds}
-use Rattle.runs.specs.Step.{Stepped, arrival, choosing, arriving}
+use Rattle.runs.specs.Step.{Stepped, arrival, arriving}
 use Rattle.runs.proofs.Windows.{part-length}
 
 module _ (w : Window) (numbers values : List ℕ) (W : Within w numbers values) where
@@ -71,12 +71,12 @@ module _ (w : Window) (numbers values : List ℕ) (W : Within w numbers values) 
   queue = windowOf w numbers values
 
   pub held : (r : Window) (numbers′ values′ : List ℕ) → Holds r numbers′ values′ (queue ++ p ∷ [])
-      → Stepped (choosing Hold (arrival slot p) queue) before r numbers′ values′ before
+      → Stepped (arriving (applied Hold) (arrival slot p) queue) before r numbers′ values′ before
   unfolding entered
   held r numbers′ values′ H = record { within = H .within; queue = H .is; written = refl }
 
   pub rejected : (after : Lists) → after ≡ enter (entry (p .number) fates.Rejected slot (p .number)) before
-      → Stepped (choosing Reject (arrival slot p) queue) before w numbers values after
+      → Stepped (arriving (applied Reject) (arrival slot p) queue) before w numbers values after
   unfolding entered
   rejected after e = record { within = W; queue = refl; written = e }
 
@@ -85,7 +85,7 @@ module _ (w : Window) (numbers values : List ℕ) (W : Within w numbers values) 
       → (after : Lists) → after ≡ enter (entry (record { 0 = getD numbers (w .head + place) 0 }) fate slot (p .number)) before
       → (rest : Window) (numbers₁ values₁ : List ℕ) → Holds rest numbers₁ values₁ (without place queue)
       → (r : Window) (numbers′ values′ : List ℕ) → Holds r numbers′ values′ (windowOf rest numbers₁ values₁ ++ p ∷ [])
-      → Stepped (choosing (Lose place kind) (arrival slot p) queue) before r numbers′ values′ after
+      → Stepped (arriving (applied (Lose place kind)) (arrival slot p) queue) before r numbers′ values′ after
   unfolding entered
   replaced place kind inside fate f after e rest numbers₁ values₁ lost r numbers′ values′ H =
       record {
@@ -95,15 +95,22 @@ module _ (w : Window) (numbers values : List ℕ) (W : Within w numbers values) 
             e ∙ ap₂ (λ (q : Packet) (k : Fate). enter (entry (q .number) k slot (p .number)) before) (sym (window-at w numbers values W place inside)) f;
       }
 
+  -- a rule that decides as a choice does
+  pub by-choice : (rule : List Packet → Packet → Decided) (choice : Choice) → rule queue p ≡ applied choice queue p
+      → (r : Window) (numbers′ values′ : List ℕ) (after : Lists)
+      → Stepped (arriving (applied choice) (arrival slot p) queue) before r numbers′ values′ after
+      → Stepped (arriving rule (arrival slot p) queue) before r numbers′ values′ after
+  by-choice rule choice same r numbers′ values′ after S =
+      subst (λ (d : Decided). Stepped (byRule (λ q x. d) .arrive (arrival slot p) queue) before r numbers′ values′ after) (sym same) S
+
   -- the choice made on the window's values is the rule's decision on its queue
   pub by-rule : (room : ℕ) (rule : Rule) (choice : Choice) → choose room rule (part w values) (p .value) ≡ choice
       → (r : Window) (numbers′ values′ : List ℕ) (after : Lists)
-      → Stepped (choosing choice (arrival slot p) queue) before r numbers′ values′ after
-      → Stepped (arriving room rule (arrival slot p) queue) before r numbers′ values′ after
-  by-rule room rule choice e r numbers′ values′ after S =
+      → Stepped (arriving (applied choice) (arrival slot p) queue) before r numbers′ values′ after
+      → Stepped (arriving (ruleOf room rule) (arrival slot p) queue) before r numbers′ values′ after
+  by-rule room rule choice e =
       let made : choose room rule (valuesOf queue) (p .value) ≡ choice = ap (λ (vs : List ℕ). choose room rule vs (p .value)) (window-values w numbers values W) ∙ e in
-      let same : ruleOf room rule queue p ≡ applied choice queue p = decided room rule queue p ∙ ap (λ (k : Choice). applied k queue p) made in
-      subst (λ (d : Decided). Stepped (byRule (λ q x. d) .arrive (arrival slot p) queue) before r numbers′ values′ after) (sym same) S
+      by-choice (ruleOf room rule) choice (decided room rule queue p ∙ ap (λ (k : Choice). applied k queue p) made)
 
 -- a packet that is lost is one of those held
 abbrev Inside : ℕ → Choice → Type 0

@@ -2,8 +2,12 @@ pub mod Windows
 pub mod Sending
 pub mod Arriving
 pub mod Turning
-pub mod Running
 pub mod Counting
+pub mod Places
+pub mod Running
+pub mod Ordering
+pub mod Keeping
+pub mod Planning
 pub mod Answering
 pub mod Marking
 pub mod Flushing

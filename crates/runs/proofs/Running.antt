@@ -1,54 +1,31 @@
 -- The loop over the packets: what is left of the course, done on the lists as they are now, gives what the whole course gives on the lists as they were;
 -- and likewise for the greatest length of the queue.
-use Prim.Native.Nat.{ℕ, zero, suc, max, _+_, _-_, _*_, _≤_, _<_}
-use mathlib.Core.Path.{_≡_, refl, sym, ap, ap₂, subst, _∙_}
-use mathlib.Core.List.{List, [], _∷_, _++_}
-use native.Mathlib.Numerals.{add-one}
+use Prim.Native.Nat.{ℕ, max, _+_, _-_, _*_, _≤_, _<_}
+use mathlib.Core.Path.{_≡_, sym, ap, ap₂, _∙_}
+use mathlib.Core.List.{List, [], _∷_}
 use native.Mathlib.Omega.{arith}
-use native.Mathlib.Nat.{add-zero, zero-add, add-suc, suc-add}
 use lib.ListN.{length, getD, drop, drop-of-length-le}
 use Rattle.model.specs.declared.Packet.{Packet}
 use Rattle.model.specs.declared.Slot.{Slot}
 use Rattle.model.specs.Limits.{recordLimits, portLimits}
-use Rattle.model.specs.Packets.{Arrival, arrivalsFrom, arrivals, slotsUntil}
+use Rattle.model.specs.Packets.{Arrival, arrivals, slotsUntil}
 use Rattle.model.specs.Record.{Entry, Lists, entered}
-use Rattle.model.specs.Course.{Step, Policy, byRule, slotEnds, course, first}
+use Rattle.model.specs.Course.{Step, Policy, Decided, byRule, slotEnds, course, first}
 use Rattle.laws.proofs.Standing.{turn, course-turn}
 use Rattle.laws.proofs.Held.{mostQueue}
-use Rattle.queue.specs.declared.Rule.{Rule}
-use Rattle.queue.specs.Choose.{ruleOf}
 use Rattle.runs.specs.declared.window.Window.{Window}
 use Rattle.runs.specs.Window.{windowOf, Within}
-use Rattle.runs.specs.Step.{Stepped, arrival, sending, turning}
-use Rattle.runs.specs.Run.{policyOf, Runnable, Ran}
+use Rattle.runs.specs.Step.{Stepped, sending, turning}
+use Rattle.runs.specs.Run.{Runnable, Ran}
+use Rattle.runs.specs.Places.{packetAt}
+use Rattle.runs.proofs.Places.{arrivals-at, arrivals-length}
 use Rattle.runs.proofs.Windows.{window, window-none}
 use Rattle.runs.proofs.Arriving.{window-length}
 use Rattle.runs.proofs.Turning.{entered-both, sending-is, turning-is}
 
--- the packet at a place of a trace
-abbrev pub packetAt : List ℕ → List ℕ → ℕ → Arrival
-packetAt slots values i =
-    arrival (record { 0 = getD slots i 0 }) (record { number = record { 0 = i + 1 }; value = getD values i 0 })
-
-arrivals-at : (n i : ℕ) (slots values : List ℕ) → length values ≡ length slots → i < length slots
-    → drop i (arrivalsFrom n slots values)
-    ≡ arrival (record { 0 = getD slots i 0 }) (record { number = record { 0 = n + i }; value = getD values i 0 })
-    ∷ drop (suc i) (arrivalsFrom n slots values)
-unfolding arrivalsFrom
-arrivals-at n i [] values same inside = absurd (omega arith)
-arrivals-at n i (s ∷ slots) [] same inside = absurd (omega arith)
-arrivals-at n zero (s ∷ slots) (v ∷ values) same inside = rw add-zero refl
-arrivals-at n (suc i) (s ∷ slots) (v ∷ values) same inside = rw (add-suc, ← (suc-add n i)) (arrivals-at (suc n) i slots values (omega arith) (omega arith))
-
-arrivals-length : (n : ℕ) (slots values : List ℕ) → length (arrivalsFrom n slots values) ≤ length slots
-unfolding arrivalsFrom
-arrivals-length n [] values = omega arith
-arrivals-length n (s ∷ slots) [] = omega arith
-arrivals-length n (s ∷ slots) (v ∷ values) = omega (arith, arrivals-length (suc n) slots values)
-
-module _ (room : ℕ) (rule : Rule) (slots values : List ℕ) (before : Lists) where
+module _ (rule : List Packet → Packet → Decided) (slots values : List ℕ) (before : Lists) where
   abbrev P : Policy (List Packet)
-  P = policyOf room rule
+  P = byRule rule
 
   abbrev trace : List Arrival
   trace = arrivals slots values
@@ -79,7 +56,7 @@ module _ (room : ℕ) (rule : Rule) (slots values : List ℕ) (before : Lists) w
         longest = ap (λ (q : List Packet). max 0 (mostQueue P first q trace)) none ∙ omega arith;
       }
 
-  module _ (R : Runnable room rule slots values) (numbers held : List ℕ) (head tail last most i : ℕ) (now : Lists) (G : Going numbers held head tail last most i now) where
+  module _ (R : Runnable rule slots values) (numbers held : List ℕ) (head tail last most i : ℕ) (now : Lists) (G : Going numbers held head tail last most i now) where
     -- the queue never fills its places
     pub going-free : tail - head < length held
     going-free = omega (arith, G .short, G .longest, G .places, R .short)
@@ -92,16 +69,15 @@ module _ (room : ℕ) (rule : Rule) (slots values : List ℕ) (before : Lists) w
 
     pub going-turn : i < length slots
         → (w : Window) (numbers′ held′ : List ℕ) (after : Lists) (most′ : ℕ)
-        → Stepped (turning room rule (at last) (packetAt slots values i) queue) now w numbers′ held′ after
+        → Stepped (turning rule (at last) (packetAt slots values i) queue) now w numbers′ held′ after
         → length held′ ≡ length held → most′ ≡ max most (w .tail - w .head)
         → Going numbers′ held′ (w .head) (w .tail) (getD slots i 0) most′ (i + 1) after
     unfolding mostQueue
     going-turn some w numbers′ held′ after most′ S kept m =
         let a = packetAt slots values i in
-        let cons : drop i trace ≡ a ∷ drop (i + 1) trace =
-        arrivals-at 1 i slots values (R .same) some ∙ ap₂ (λ (k n : ℕ). arrival (a .slot) (record { number = record { 0 = k }; value = a .packet .value }) ∷ drop n trace) (omega arith) (sym (add-one i)) in
+        let cons : drop i trace ≡ a ∷ drop (i + 1) trace = arrivals-at slots values i (R .same) some in
         let step = turn P (at last) queue a in
-        let is : turning room rule (at last) a queue ≡ step = turning-is room rule (at last) a queue in
+        let is : turning rule (at last) a queue ≡ step = turning-is rule (at last) a queue in
         let q : windowOf w numbers′ held′ ≡ step .next = S .queue ∙ ap (λ (s : Step (List Packet)). s .next) is in
         let rest = course P (a .slot) (step .next) (drop (i + 1) trace) in
         let l : length (step .next) ≡ w .tail - w .head = ap length (sym q) ∙ window-length w numbers′ held′ (S .within) in
@@ -125,14 +101,14 @@ module _ (room : ℕ) (rule : Rule) (slots values : List ℕ) (before : Lists) w
 
     pub going-end : length slots ≤ i → (w : Window) (after : Lists) (until : Slot) → until .0 ≡ last + (tail - head)
         → Stepped (sending (at last) until queue) now w numbers held after
-        → Ran room rule slots values before after most
+        → Ran rule slots values before after most
     unfolding mostQueue course
     going-end done w after until u S =
-        let past : length trace ≤ i = omega (arith, arrivals-length 1 slots values) in
+        let past : length trace ≤ i = omega (arith, arrivals-length 1 slots values (R .same)) in
         let none : drop i trace ≡ [] = drop-of-length-le trace past in
         let n : slotsUntil (at last) until ≡ length queue = omega (arith, window-length (window head tail) numbers held (G .within)) in
         let is : sending (at last) until queue ≡ slotEnds P (length queue) (at last) queue =
-        sending-is (ruleOf room rule) (at last) until queue ∙ ap (λ (k : ℕ). slotEnds P k (at last) queue) n in
+        sending-is rule (at last) until queue ∙ ap (λ (k : ℕ). slotEnds P k (at last) queue) n in
         let zero-left : mostQueue P (at last) queue (drop i trace) ≡ 0 = ap (mostQueue P (at last) queue) none in
         record {
           written =

@@ -9,8 +9,6 @@ use Rattle.model.specs.declared.Slot.{Slot}
 use Rattle.model.specs.Packets.{Arrival, slotsUntil, following}
 use Rattle.model.specs.Record.{Entry, Lists, enter, entered}
 use Rattle.model.specs.Course.{Step, Decided, andThen, byRule, sendOldest, slotEnds}
-use Rattle.queue.specs.declared.Rule.{Rule}
-use Rattle.queue.specs.Choose.{ruleOf}
 use Rattle.laws.proofs.Standing.{turn}
 use Rattle.runs.specs.declared.window.Window.{Window}
 use Rattle.runs.specs.Window.{windowOf, Within}
@@ -38,22 +36,22 @@ sent-free now until w numbers values before after r W short S =
     let less = ends-shorter anyRule (slotsUntil now until) now (windowOf w numbers values) in
     omega (arith, ap length (S .queue))
 
-pub turned : (room : ℕ) (rule : Rule) (now : Slot) (a : Arrival) (queue : List Packet) (before between after : Lists)
+pub turned : (rule : List Packet → Packet → Decided) (now : Slot) (a : Arrival) (queue : List Packet) (before between after : Lists)
     (w r : Window) (numbers values numbers′ values′ : List ℕ)
     → Stepped (sending now (a .slot) queue) before w numbers values between
-    → Stepped (arriving room rule a (windowOf w numbers values)) between r numbers′ values′ after
-    → Stepped (turning room rule now a queue) before r numbers′ values′ after
-turned room rule now a queue before between after w r numbers values numbers′ values′ S A =
+    → Stepped (arriving rule a (windowOf w numbers values)) between r numbers′ values′ after
+    → Stepped (turning rule now a queue) before r numbers′ values′ after
+turned rule now a queue before between after w r numbers values numbers′ values′ S A =
     let next = sending now (a .slot) queue .next in
-    let B : Stepped (arriving room rule a next) between r numbers′ values′ after =
-    subst (λ (q : List Packet). Stepped (arriving room rule a q) between r numbers′ values′ after) (S .queue) A in
+    let B : Stepped (arriving rule a next) between r numbers′ values′ after =
+    subst (λ (q : List Packet). Stepped (arriving rule a q) between r numbers′ values′ after) (S .queue) A in
     record {
       within = B .within;
       queue = B .queue;
       written =
           B .written
-          ∙ ap (entered (arriving room rule a next .entries)) (S .written)
-          ∙ sym (entered-both (sending now (a .slot) queue .entries) (arriving room rule a next .entries) before);
+          ∙ ap (entered (arriving rule a next .entries)) (S .written)
+          ∙ sym (entered-both (sending now (a .slot) queue .entries) (arriving rule a next .entries) before);
     }
 
 -- the ends of slots are the same whatever the rule
@@ -68,6 +66,6 @@ pub sending-is : (rule : List Packet → Packet → Decided) (now until : Slot) 
 unfolding sending
 sending-is rule now until queue = ends-any rule (slotsUntil now until) now queue
 
-pub turning-is : (room : ℕ) (rule : Rule) (now : Slot) (a : Arrival) (queue : List Packet) → turning room rule now a queue ≡ turn (byRule (ruleOf room rule)) now queue a
-turning-is room rule now a queue =
-    ap (λ (s : Step (List Packet)). andThen (s .entries) (arriving room rule a (s .next))) (sending-is (ruleOf room rule) now (a .slot) queue)
+pub turning-is : (rule : List Packet → Packet → Decided) (now : Slot) (a : Arrival) (queue : List Packet) → turning rule now a queue ≡ turn (byRule rule) now queue a
+turning-is rule now a queue =
+    ap (λ (s : Step (List Packet)). andThen (s .entries) (arriving rule a (s .next))) (sending-is rule now (a .slot) queue)

@@ -2,6 +2,10 @@ pub mod Entry
 pub mod Window
 pub mod Step
 pub mod Run
+pub mod Places
+pub mod Order
+pub mod Keep
+pub mod Plan
 pub mod Totals
 pub mod Calls
 pub mod Mark

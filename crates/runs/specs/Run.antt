@@ -7,23 +7,17 @@ use Rattle.model.specs.declared.Packet.{Packet}
 use Rattle.model.specs.Limits.{recordLimits, portLimits}
 use Rattle.model.specs.Packets.{arrivals}
 use Rattle.model.specs.Record.{Lists, entered}
-use Rattle.model.specs.Course.{Policy, byRule, course, first}
+use Rattle.model.specs.Course.{Decided, byRule, course, first}
 use Rattle.laws.proofs.Held.{mostQueue}
-use Rattle.queue.specs.declared.Rule.{Rule}
-use Rattle.queue.specs.Choose.{ruleOf}
-
--- the policy of a rule
-abbrev pub policyOf : ℕ → Rule → Policy (List Packet)
-policyOf room rule = byRule (ruleOf room rule)
 
 -- as many values as slots and not too many, slots in range, and a queue that is never longer than the greatest room
-pub record Runnable (room : ℕ) (rule : Rule) (slots values : List ℕ) : Type 0 where
+pub record Runnable (rule : List Packet → Packet → Decided) (slots values : List ℕ) : Type 0 where
   pub same : length values ≡ length slots
   pub few : length slots ≤ recordLimits .packets
   pub slots-fit : (k : ℕ) → k < length slots → getD slots k 0 ≤ recordLimits .slot
-  pub short : mostQueue (policyOf room rule) first [] (arrivals slots values) ≤ portLimits .room
+  pub short : mostQueue (byRule rule) first [] (arrivals slots values) ≤ portLimits .room
 
 -- all entries of the course are written, and the answer is the greatest length of the queue just after an arrival
-pub record Ran (room : ℕ) (rule : Rule) (slots values : List ℕ) (before after : Lists) (most : ℕ) : Type 0 where
-  pub written : after ≡ entered (course (policyOf room rule) first [] (arrivals slots values)) before
-  pub longest : most ≡ mostQueue (policyOf room rule) first [] (arrivals slots values)
+pub record Ran (rule : List Packet → Packet → Decided) (slots values : List ℕ) (before after : Lists) (most : ℕ) : Type 0 where
+  pub written : after ≡ entered (course (byRule rule) first [] (arrivals slots values)) before
+  pub longest : most ≡ mostQueue (byRule rule) first [] (arrivals slots values)

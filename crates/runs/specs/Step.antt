@@ -7,9 +7,6 @@ use Rattle.model.specs.declared.Slot.{Slot}
 use Rattle.model.specs.Packets.{Arrival, slotsUntil}
 use Rattle.model.specs.Record.{Lists, entered}
 use Rattle.model.specs.Course.{Step, Decided, andThen, byRule, slotEnds, rejected}
-use Rattle.queue.specs.declared.Rule.{Rule}
-use Rattle.queue.specs.declared.Choice.{Choice}
-use Rattle.queue.specs.Choose.{ruleOf, applied}
 use Rattle.runs.specs.declared.window.Window.{Window}
 use Rattle.runs.specs.Window.{Within, windowOf}
 
@@ -24,19 +21,15 @@ sending now until queue = slotEnds (byRule anyRule) (slotsUntil now until) now q
 abbrev pub arrival : Slot → Packet → Arrival
 arrival slot p = record { slot = slot; packet = p }
 
--- an arrival of which a choice is made
-abbrev pub choosing : Choice → Arrival → List Packet → Step (List Packet)
-choosing choice a queue = byRule (applied choice) .arrive a queue
-
--- an arrival under a rule
-abbrev pub arriving : ℕ → Rule → Arrival → List Packet → Step (List Packet)
-arriving room rule a queue = byRule (ruleOf room rule) .arrive a queue
+-- an arrival under a rule, which can be a choice already made
+abbrev pub arriving : (List Packet → Packet → Decided) → Arrival → List Packet → Step (List Packet)
+arriving rule a queue = byRule rule .arrive a queue
 
 -- the ends of the slots before an arrival's own, then the arrival
-abbrev pub turning : ℕ → Rule → Slot → Arrival → List Packet → Step (List Packet)
-turning room rule now a queue =
+abbrev pub turning : (List Packet → Packet → Decided) → Slot → Arrival → List Packet → Step (List Packet)
+turning rule now a queue =
     let before = sending now (a .slot) queue in
-    andThen (before .entries) (arriving room rule a (before .next))
+    andThen (before .entries) (arriving rule a (before .next))
 
 -- a step is done: the window holds the queue after it, and its entries are written
 pub record Stepped (step : Step (List Packet)) (before : Lists) (w : Window) (numbers values : List ℕ) (after : Lists) : Type 0 where

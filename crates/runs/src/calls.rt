@@ -1,12 +1,14 @@
 // The public calls on a trace: each tests its input, runs, and answers the totals of the record that it wrote.
 ghost use mathlib.Core.Path.{_≡_};
-ghost use Rattle.model.specs.Calls.{ran, greedyCall, pgCall};
-ghost use Rattle.model.specs.Course.{course, first};
+ghost use Rattle.model.specs.Calls.{ran, greedyCall, pgCall, planCall};
+ghost use Rattle.model.specs.Course.{byRule, course, first};
 ghost use Rattle.model.specs.Packets.{arrivals};
 ghost use mathlib.Core.List.{[]};
+ghost use Rattle.queue.specs.Choose.{ruleOf};
 ghost use Rattle.runs.specs.Entry.{lists};
-ghost use Rattle.runs.specs.Run.{policyOf};
+ghost use Rattle.runs.specs.Plan.{planRule, Plannable};
 ghost use Rattle.runs.specs.Calls.{Ready, outcome};
+use crate::plan::run_plan;
 use crate::run::run;
 use crate::totals::totals;
 use model::Beta;
@@ -24,8 +26,8 @@ fn finish(
     whens: &mut [u32],
     bys: &mut [u32],
 ) -> RunAnswer
-    requires { ⌜ Ready (policyOf room rule) (now slots) (now values) (lists (now fates) (now whens) (now bys)) ⌝ }
-    ensures { λ r. ⌜ outcome r (lists (now (fates .exit)) (now (whens .exit)) (now (bys .exit))) ≡ ran (now (slots .entry)) (now (values .entry)) (course (policyOf room rule) first [] (arrivals (now (slots .entry)) (now (values .entry)))) ⌝ }
+    requires { ⌜ Ready (byRule (ruleOf room rule)) (now slots) (now values) (lists (now fates) (now whens) (now bys)) ⌝ }
+    ensures { λ r. ⌜ outcome r (lists (now (fates .exit)) (now (whens .exit)) (now (bys .exit))) ≡ ran (now (slots .entry)) (now (values .entry)) (course (byRule (ruleOf room rule)) first [] (arrivals (now (slots .entry)) (now (values .entry)))) ⌝ }
 {
     let most = run(slots, values, room, rule, fates, whens, bys);
     RunAnswer::Ran(totals(values, fates, most))
@@ -63,5 +65,40 @@ pub fn pg(
     match trace::pg(slots, values, room, beta, fates, whens, bys) {
         Checked::Refused(refusal) => RunAnswer::Refused(refusal),
         Checked::Accepted => finish(slots, values, room, Rule::PG(beta), fates, whens, bys),
+    }
+}
+
+// The offline plan's run over an accepted trace, and its totals.
+fn finish_plan(
+    slots: &[u32],
+    values: &[u32],
+    room: usize,
+    fates: &mut [u32],
+    whens: &mut [u32],
+    bys: &mut [u32],
+) -> RunAnswer
+    requires { ⌜ Ready (byRule (planRule room (now slots) (now values))) (now slots) (now values) (lists (now fates) (now whens) (now bys)) ⌝ }
+    requires { ⌜ Plannable room (now slots) (now values) ⌝ }
+    ensures { λ r. ⌜ outcome r (lists (now (fates .exit)) (now (whens .exit)) (now (bys .exit))) ≡ ran (now (slots .entry)) (now (values .entry)) (course (byRule (planRule room (now (slots .entry)) (now (values .entry)))) first [] (arrivals (now (slots .entry)) (now (values .entry)))) ⌝ }
+{
+    let most_held = run_plan(slots, values, room, fates, whens, bys);
+    RunAnswer::Ran(totals(values, fates, most_held))
+}
+
+// The offline plan.
+pub fn plan(
+    slots: &[u32],
+    values: &[u32],
+    room: usize,
+    fates: &mut [u32],
+    whens: &mut [u32],
+    bys: &mut [u32],
+) -> RunAnswer
+    ensures { λ r. ⌜ outcome r (lists (now (fates .exit)) (now (whens .exit)) (now (bys .exit))) ≡ planCall (now (slots .entry)) (now (values .entry)) room (lists (now (fates .entry)) (now (whens .entry)) (now (bys .entry))) ⌝ }
+{
+    let tested = trace::plain(slots, values, room, fates, whens, bys);
+    match tested {
+        Checked::Refused(refusal) => RunAnswer::Refused(refusal),
+        Checked::Accepted => finish_plan(slots, values, room, fates, whens, bys),
     }
 }

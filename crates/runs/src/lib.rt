@@ -1,9 +1,12 @@
-// Plain greedy and PG on a trace: one run, two rules.
+// Plain greedy, PG, MF and the offline plan on a trace.
 pub mod calls;
 mod entry;
 mod flush;
+mod keep;
 mod mark;
 mod mf;
+mod order;
+mod plan;
 mod run;
 mod step;
 mod totals;

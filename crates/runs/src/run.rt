@@ -1,5 +1,6 @@
 // The run of a rule over an accepted trace.
 ghost use mathlib.Core.Path.{_≡_};
+ghost use Rattle.queue.specs.Choose.{ruleOf};
 ghost use Rattle.runs.specs.Entry.{lists};
 ghost use Rattle.runs.specs.Run.{Runnable, Ran};
 use crate::step::send_until;
@@ -12,7 +13,7 @@ use port::Port;
 use queue::Rule;
 
 // The places of the two lists that hold the queue: with twice the greatest room it moves to the start of its lists at most once in so many arrivals.
-const PLACES: usize = 2 * Port::ROOM;
+pub const PLACES: usize = 2 * Port::ROOM;
 
 // Writes the record of a rule's run, and answers the most held just after any arrival: the greatest length of the queue.
 pub fn run(
@@ -24,8 +25,8 @@ pub fn run(
     whens: &mut [u32],
     bys: &mut [u32],
 ) -> u32
-    requires { ⌜ Runnable room rule (now slots) (now values) ⌝ }
-    ensures { λ r. ⌜ Ran room rule (now (slots .entry)) (now (values .entry)) (lists (now (fates .entry)) (now (whens .entry)) (now (bys .entry))) (lists (now (fates .exit)) (now (whens .exit)) (now (bys .exit))) r ⌝ }
+    requires { ⌜ Runnable (ruleOf room rule) (now slots) (now values) ⌝ }
+    ensures { λ r. ⌜ Ran (ruleOf room rule) (now (slots .entry)) (now (values .entry)) (lists (now (fates .entry)) (now (whens .entry)) (now (bys .entry))) (lists (now (fates .exit)) (now (whens .exit)) (now (bys .exit))) r ⌝ }
 {
     let mut numbers = [0u32; PLACES];
     let mut held = [0u32; PLACES];

@@ -3,10 +3,10 @@ ghost use mathlib.Core.Path.{_≡_};
 ghost use Prim.Native.Nat.{_+_, _-_, _≤_, _<_, _^_};
 ghost use lib.ListN.{length};
 ghost use Rattle.model.specs.Record.{entered};
-ghost use Rattle.queue.specs.Choose.{ruleOf};
+ghost use Rattle.queue.specs.Choose.{ruleOf, applied};
 ghost use Rattle.runs.specs.Entry.{lists};
 ghost use Rattle.runs.specs.Window.{windowOf, Within};
-ghost use Rattle.runs.specs.Step.{Stepped, arrival, choosing, arriving, turning, sending};
+ghost use Rattle.runs.specs.Step.{Stepped, arrival, arriving, turning, sending};
 use crate::entry::enter;
 use crate::window::Window;
 use crate::window::hold;
@@ -73,7 +73,7 @@ fn replace(
 ) -> Window
     requires { ⌜ Within w (now numbers) (now values) ⌝ }
     requires { ⌜ w .head + place < w .tail ⌝ }
-    ensures { λ r. ⌜ Stepped (choosing (Choice.Lose place kind) (arrival slot p) (windowOf w (now (numbers .entry)) (now (values .entry)))) (lists (now (fates .entry)) (now (whens .entry)) (now (bys .entry))) r (now (numbers .exit)) (now (values .exit)) (lists (now (fates .exit)) (now (whens .exit)) (now (bys .exit))) ⌝ }
+    ensures { λ r. ⌜ Stepped (arriving (applied (Choice.Lose place kind)) (arrival slot p) (windowOf w (now (numbers .entry)) (now (values .entry)))) (lists (now (fates .entry)) (now (whens .entry)) (now (bys .entry))) r (now (numbers .exit)) (now (values .exit)) (lists (now (fates .exit)) (now (whens .exit)) (now (bys .exit))) ⌝ }
 {
     let at = w.head + place;
     let lost = PacketNumber(numbers[at]);
@@ -97,7 +97,7 @@ pub fn arrive(
 ) -> Window
     requires { ⌜ Within w (now numbers) (now values) ⌝ }
     requires { ⌜ w .tail - w .head < length (now values) ⌝ }
-    ensures { λ r. ⌜ Stepped (arriving room rule (arrival slot p) (windowOf w (now (numbers .entry)) (now (values .entry)))) (lists (now (fates .entry)) (now (whens .entry)) (now (bys .entry))) r (now (numbers .exit)) (now (values .exit)) (lists (now (fates .exit)) (now (whens .exit)) (now (bys .exit))) ⌝ }
+    ensures { λ r. ⌜ Stepped (arriving (ruleOf room rule) (arrival slot p) (windowOf w (now (numbers .entry)) (now (values .entry)))) (lists (now (fates .entry)) (now (whens .entry)) (now (bys .entry))) r (now (numbers .exit)) (now (values .exit)) (lists (now (fates .exit)) (now (whens .exit)) (now (bys .exit))) ⌝ }
 {
     let head = w.head;
     let tail = w.tail;
@@ -138,7 +138,7 @@ pub fn take(
 ) -> Window
     requires { ⌜ Within w (now numbers) (now values) ⌝ }
     requires { ⌜ w .tail - w .head < length (now values) ⌝ }
-    ensures { λ r. ⌜ Stepped (turning room rule before (arrival slot p) (windowOf w (now (numbers .entry)) (now (values .entry)))) (lists (now (fates .entry)) (now (whens .entry)) (now (bys .entry))) r (now (numbers .exit)) (now (values .exit)) (lists (now (fates .exit)) (now (whens .exit)) (now (bys .exit))) ⌝ }
+    ensures { λ r. ⌜ Stepped (turning (ruleOf room rule) before (arrival slot p) (windowOf w (now (numbers .entry)) (now (values .entry)))) (lists (now (fates .entry)) (now (whens .entry)) (now (bys .entry))) r (now (numbers .exit)) (now (values .exit)) (lists (now (fates .exit)) (now (whens .exit)) (now (bys .exit))) ⌝ }
 {
     let left = send_until(numbers, values, fates, whens, bys, w, before, slot);
     arrive(

@@ -17,3 +17,4 @@ pub mod PlanSends
 pub mod Demand3
 pub mod Answered
 pub mod PlainMF
+pub mod Fed

@@ -1,21 +1,21 @@
 -- What a clear test leaves to rely on. A chain of refusals is clear only if each of them is, and the walk over the packets is such a chain; slots that never
 -- go down from one packet to the next never go down at all.
-use Prim.Native.Nat.{ℕ, zero, suc, _≤_, _<_, zero-le, suc-le-suc}
+use Prim.Native.Nat.{ℕ, zero, suc, _≤_, _<_}
 use native.Mathlib.Nat.{le-refl, le-of-suc-le-suc}
 use native.Mathlib.Omega.{arith}
-use mathlib.Core.Path.{_≡_, refl, sym, _∙_, ap}
+use mathlib.Core.Path.{_≡_, refl}
 use mathlib.Core.Bool.{Bool, true, false, not, cond, _&&_}
 use mathlib.Core.List.{List, [], _∷_}
 use lib.ListN.{length, getD}
 use lib.Dec.{leb, eqb}
-use borrow.Author.Tests.{leb-true, eqb-true, eqb-false, not-false}
-use Rattle.model.specs.Limits.{recordLimits, portLimits, within}
+use borrow.Author.Tests.{leb-true, eqb-true, eqb-false}
+use Rattle.model.specs.Limits.{recordLimits, within}
 use Rattle.model.specs.Packets.{arrivalsFrom}
 use Rattle.model.specs.Record.{Lists}
-use Rattle.model.specs.Rules.{Verdict, clear, orElse, verdictIf}
-use Rattle.model.specs.Refusals.{slotOk, unless, roomOk, packetRefusal, packetRefusalFrom, lengthsRefusal, packetsRefusal, roomRefusal, traceRefusal}
+use Rattle.model.specs.Rules.{Verdict, orElse, verdictIf}
+use Rattle.model.specs.Refusals.{slotOk, roomOk, packetRefusal, packetRefusalFrom, lengthsRefusal, packetsRefusal, roomRefusal, traceRefusal}
 use Rattle.trace.proofs.Laws.{left-part, right-part, values-length}
-use Rattle.trace.specs.Checked.{slotAt, lengthsEqual}
+use Rattle.trace.specs.Checked.{lengthsEqual}
 use Rattle.trace.specs.Tested.{Packets, Tested}
 
 -- both of two verdicts are clear
@@ -51,14 +51,14 @@ record Walked (ok : ℕ → Bool) (before : ℕ) (slots values : List ℕ) : Typ
   above : (k : ℕ) → k < length slots → before ≤ getD slots k 0
 
 walked : (ok : ℕ → Bool) (before n : ℕ) (slots values : List ℕ) → length values ≡ length slots
-    → packetRefusalFrom ok (slotAt before) (arrivalsFrom n slots values) .number ≡ 0 → Walked ok before slots values
+    → packetRefusalFrom ok (record { 0 = before }) (arrivalsFrom n slots values) .number ≡ 0 → Walked ok before slots values
 unfolding packetRefusalFrom arrivalsFrom
 walked ok before n [] values l e =
     record {
       packets = record {
         slot-from = λ k h. absurd (omega arith);
         slot-to = λ k h. absurd (omega arith);
-        sorted = λ p q h h′. absurd (omega arith);
+        rising = λ p q h h′. absurd (omega arith);
         taken = λ k h. absurd (omega arith);
       };
       above = λ k h. absurd (omega arith);
@@ -67,7 +67,7 @@ walked ok before n (s ∷ slots) [] l e = absurd (omega arith)
 walked ok before n (s ∷ slots) (v ∷ values) l e =
     let here = both _ _ e in
     let next = both _ _ (here .other) in
-    let fits : slotOk (slotAt before) (slotAt s) ≡ true = shut-out _ 4 n (here .one) in
+    let fits : slotOk (record { 0 = before }) (record { 0 = s }) ≡ true = shut-out _ 4 n (here .one) in
     let ranges : within 1 (recordLimits .slot) s ≡ true = left-part _ _ fits in
     let rest = walked ok s (suc n) slots values (omega arith) (next .other) in
     let low : before ≤ s = leb-true _ _ (right-part (within 1 (recordLimits .slot) s) _ fits) in
@@ -75,7 +75,7 @@ walked ok before n (s ∷ slots) (v ∷ values) l e =
       packets = record {
         slot-from = λ k h. at (λ (x : ℕ). 1 ≤ x) s slots (within-from _ _ _ ranges) (rest .packets .slot-from) k h;
         slot-to = λ k h. at (λ (x : ℕ). x ≤ recordLimits .slot) s slots (within-to _ _ _ ranges) (rest .packets .slot-to) k h;
-        sorted = λ p q h h′. order rest p q h h′;
+        rising = λ p q h h′. order rest p q h h′;
         taken = λ k h. pass rest (shut-out _ 5 n (next .one)) k h;
       };
       above = λ k h. at (λ (x : ℕ). before ≤ x) s slots low (λ j i. omega (arith, rest .above j i)) k h;
@@ -90,7 +90,7 @@ walked ok before n (s ∷ slots) (v ∷ values) l e =
     order rest zero zero h h′ = le-refl s
     order rest zero (suc q) h h′ = rest .above q (le-of-suc-le-suc h′)
     order rest (suc p) zero h h′ = absurd (omega arith)
-    order rest (suc p) (suc q) h h′ = rest .packets .sorted p q (le-of-suc-le-suc h) (le-of-suc-le-suc h′)
+    order rest (suc p) (suc q) h h′ = rest .packets .rising p q (le-of-suc-le-suc h) (le-of-suc-le-suc h′)
 
     pass : Walked ok s slots values → ok v ≡ true → (k : ℕ) → k < length (s ∷ slots) → ok (getD (v ∷ values) k 0) ≡ true
     pass rest here zero h = here

@@ -2,7 +2,7 @@
 -- with the entry at i.
 use Prim.Native.Nat.{ℕ, suc, _+_, _<_, _≤_}
 use mathlib.Core.Path.{_≡_, refl}
-use mathlib.Core.Bool.{Bool, true, false, not, _&&_}
+use mathlib.Core.Bool.{Bool, true, false, _&&_}
 use mathlib.Core.List.{List}
 use lib.ListN.{length, getD, drop, drop-of-length-le}
 use lib.Seq.{drop-cons}
@@ -11,13 +11,13 @@ use native.Mathlib.Omega.{arith}
 use native.Mathlib.Numerals.{add-one}
 use Rattle.model.specs.declared.Slot.{Slot}
 use Rattle.model.specs.Packets.{arrivalsFrom}
-use Rattle.model.specs.Rules.{Verdict, clear, orElse, verdictIf}
+use Rattle.model.specs.Rules.{Verdict, clear, orElse}
 use Rattle.model.specs.Limits.{recordLimits}
 use Rattle.model.specs.Refusals.{unless, roomOk, slotOk, valueOk, packetRefusal, packetRefusalFrom, traceRefusal}
 use Rattle.trace.specs.declared.Values.{Values}
 use Rattle.trace.specs.declared.Values.the-variants.{InRange, LoOrHi}
 use Rattle.model.specs.Record.{Lists}
-use Rattle.trace.specs.Checked.{okOf, slotAt, lengthsEqual}
+use Rattle.trace.specs.Checked.{okOf, lengthsEqual}
 use borrow.Author.Tests.{eqb-true}
 
 -- a call takes no value that is out of range
@@ -26,19 +26,19 @@ refuses InRange v e = e
 refuses (LoOrHi lo hi) v e = rw e
 
 -- what the walk answers from the packet at place i on
-abbrev pub restFrom : (ℕ → Bool) → List ℕ → List ℕ → ℕ → ℕ → Verdict
+abbrev pub restFrom : (ℕ → Bool) → List ℕ → List ℕ → Slot → ℕ → Verdict
 restFrom ok slots values before i =
-    packetRefusalFrom ok (slotAt before) (arrivalsFrom (suc i) (drop i slots) (drop i values))
+    packetRefusalFrom ok before (arrivalsFrom (suc i) (drop i slots) (drop i values))
 
 -- what one packet's two tests leave of the walk's answer
-pub record Turn (ok : ℕ → Bool) (slots values : List ℕ) (before i : ℕ) (slot-fits value-fits : Bool) : Type 0 where
+pub record Turn (ok : ℕ → Bool) (slots values : List ℕ) (before : Slot) (i : ℕ) (slot-fits value-fits : Bool) : Type 0 where
   pub by-slot : slot-fits ≡ false → restFrom ok slots values before i ≡ record { number = 5; place = i + 1 }
   pub by-value : slot-fits ≡ true → value-fits ≡ false → restFrom ok slots values before i ≡ record { number = 6; place = i + 1 }
   pub by-none : slot-fits ≡ true → value-fits ≡ true
-      → restFrom ok slots values (getD slots i 0) (i + 1) ≡ restFrom ok slots values before i
+      → restFrom ok slots values (record { 0 = getD slots i 0 }) (i + 1) ≡ restFrom ok slots values before i
 
-pub turn : (ok : ℕ → Bool) (slots values : List ℕ) (before i : ℕ) → length values ≡ length slots → i < length slots
-    → {slot-fits value-fits : Bool} → slot-fits ≡ slotOk (slotAt before) (slotAt (getD slots i 0)) → value-fits ≡ ok (getD values i 0)
+pub turn : (ok : ℕ → Bool) (slots values : List ℕ) (before : Slot) (i : ℕ) → length values ≡ length slots → i < length slots
+    → {slot-fits value-fits : Bool} → slot-fits ≡ slotOk before (record { 0 = getD slots i 0 }) → value-fits ≡ ok (getD values i 0)
     → Turn ok slots values before i slot-fits value-fits
 unfolding packetRefusalFrom arrivalsFrom orElse
 turn ok slots values before i lengths h e f =
@@ -50,7 +50,7 @@ turn ok slots values before i lengths h e f =
     }
 
 -- after the last packet nothing is refused
-pub turn-none : (ok : ℕ → Bool) (slots values : List ℕ) (before i : ℕ) → length slots ≤ i → restFrom ok slots values before i ≡ clear
+pub turn-none : (ok : ℕ → Bool) (slots values : List ℕ) (before : Slot) (i : ℕ) → length slots ≤ i → restFrom ok slots values before i ≡ clear
 unfolding packetRefusalFrom arrivalsFrom
 turn-none ok slots values before i h = rw (drop-of-length-le slots)
 
@@ -59,32 +59,27 @@ abbrev refusal : ℕ → Verdict
 refusal number = record { number = number; place = 0 }
 
 -- the first of the tests that fails gives the answer
-module _ (own : Bool) (ok : ℕ → Bool) (slots values : List ℕ) (room : ℕ) (lists : Lists) where
-  abbrev answer : Verdict
-  answer = traceRefusal (unless own 4) ok slots values room lists
+pub record Order (own : Bool) (ok : ℕ → Bool) (slots values : List ℕ) (room : ℕ) (lists : Lists) (answer : Verdict) : Type 0 where
+  pub by-lengths : lengthsEqual slots values lists ≡ false → answer ≡ refusal 1
+  pub by-packets : lengthsEqual slots values lists ≡ true → leb (length slots) (recordLimits .packets) ≡ false → answer ≡ refusal 2
+  pub by-room : lengthsEqual slots values lists ≡ true → leb (length slots) (recordLimits .packets) ≡ true → roomOk room ≡ false
+      → answer ≡ refusal 3
+  pub by-own : lengthsEqual slots values lists ≡ true → leb (length slots) (recordLimits .packets) ≡ true → roomOk room ≡ true → own ≡ false
+      → answer ≡ refusal 4
+  pub by-none : lengthsEqual slots values lists ≡ true → leb (length slots) (recordLimits .packets) ≡ true → roomOk room ≡ true → own ≡ true
+      → answer ≡ packetRefusal ok slots values
 
-  pub order-1 : lengthsEqual slots values lists ≡ false → answer ≡ refusal 1
-  unfolding orElse
-  order-1 a = rw a
-
-  module _ (a : lengthsEqual slots values lists ≡ true) where
-    pub order-2 : leb (length slots) (recordLimits .packets) ≡ false → answer ≡ refusal 2
-    unfolding orElse
-    order-2 b = rw (a, b)
-
-    module _ (b : leb (length slots) (recordLimits .packets) ≡ true) where
-      pub order-3 : roomOk room ≡ false → answer ≡ refusal 3
-      unfolding orElse
-      order-3 c = rw (a, b, c)
-
-      module _ (c : roomOk room ≡ true) where
-        pub order-4 : own ≡ false → answer ≡ refusal 4
-        unfolding orElse
-        order-4 d = rw (a, b, c, d)
-
-        pub order-rest : own ≡ true → answer ≡ packetRefusal ok slots values
-        unfolding orElse
-        order-rest d = rw (a, b, c, d)
+pub order : (own : Bool) (ok : ℕ → Bool) (slots values : List ℕ) (room : ℕ) (lists : Lists)
+    → Order own ok slots values room lists (traceRefusal (unless own 4) ok slots values room lists)
+unfolding orElse
+order own ok slots values room lists =
+    record {
+      by-lengths = λ a. rw a;
+      by-packets = λ a b. rw (a, b);
+      by-room = λ a b c. rw (a, b, c);
+      by-own = λ a b c d. rw (a, b, c, d);
+      by-none = λ a b c d. rw (a, b, c, d);
+    }
 
 -- the parts of a test
 pub left-part : (a b : Bool) → a && b ≡ true → a ≡ true

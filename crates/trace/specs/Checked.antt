@@ -5,7 +5,6 @@ use mathlib.Core.Bool.{Bool, _&&_}
 use mathlib.Core.List.{List}
 use lib.ListN.{length}
 use lib.Dec.{eqb}
-use Rattle.model.specs.declared.Slot.{Slot}
 use Rattle.model.specs.Limits.{recordLimits}
 use Rattle.model.specs.Record.{Lists}
 use Rattle.model.specs.Rules.{Verdict, clear}
@@ -35,10 +34,6 @@ abbrev pub okOf : Values → ℕ → Bool
 okOf InRange v = valueOk v
 okOf (LoOrHi lo hi) v = loOrHi (markingOf lo hi 0) v
 
--- a number read as a slot
-abbrev pub slotAt : ℕ → Slot
-slotAt s = record { 0 = s }
-
 -- all lists are as long as that of the slots
 abbrev pub lengthsEqual : List ℕ → List ℕ → Lists → Bool
 lengthsEqual slots values lists =
@@ -48,6 +43,6 @@ lengthsEqual slots values lists =
     && eqb (length (lists .bys)) (length slots)
 
 -- what refusals 1 and 2 leave: as many values as slots, and not too many
-pub record Counted (slots values : List ℕ) : Type 0 where
-  pub lengths : length values ≡ length slots
-  pub packets : length slots ≤ recordLimits .packets
+pub record Lengths (slots values : List ℕ) : Type 0 where
+  pub equal : length values ≡ length slots
+  pub few : length slots ≤ recordLimits .packets

@@ -7,11 +7,15 @@ use lib.ListN.{length, getD}
 use Rattle.model.specs.Limits.{recordLimits, portLimits}
 use Rattle.model.specs.Record.{Lists}
 
+-- the slots never go down
+abbrev pub Rising : List ℕ → Type 0
+Rising slots = (p q : ℕ) → p ≤ q → q < length slots → getD slots p 0 ≤ getD slots q 0
+
 -- the slots are in range and never go down, and the values pass a test
 pub record Packets (ok : ℕ → Bool) (slots values : List ℕ) : Type 0 where
   pub slot-from : (k : ℕ) → k < length slots → 1 ≤ getD slots k 0
   pub slot-to : (k : ℕ) → k < length slots → getD slots k 0 ≤ recordLimits .slot
-  pub sorted : (p q : ℕ) → p ≤ q → q < length slots → getD slots p 0 ≤ getD slots q 0
+  pub rising : Rising slots
   pub taken : (k : ℕ) → k < length slots → ok (getD values k 0) ≡ true
 
 -- refusals 1, 2, 3, 5 and 6 are clear

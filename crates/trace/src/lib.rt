@@ -1,11 +1,12 @@
 // The test of a trace: refusals 1 to 6, in each call's order. What is refused, and at which place, stands in crate model.
 ghost use mathlib.Core.Path.{_≡_};
 ghost use Rattle.model.specs.Refusals.{unless, markingOk, slotOk, packetRefusal, traceRefusal, plainRefusal, pgRefusal, mfRefusal};
-ghost use Rattle.trace.specs.Checked.{verdictOf, listsOf, markingOf, okOf, slotAt, lengthsEqual, Counted};
+ghost use Rattle.trace.specs.Checked.{verdictOf, listsOf, markingOf, okOf, lengthsEqual, Lengths};
 use model::Beta;
 use model::Cause;
 use model::Record;
 use model::Refusal;
+use model::Slot;
 use port::ranges::beta_ok;
 use port::ranges::room_ok;
 use port::ranges::value_ok;
@@ -17,21 +18,21 @@ pub enum Checked {
 }
 
 // Which values a call takes: all that are in range, or of these only lo and hi.
-pub enum Values {
+enum Values {
     InRange,
     LoOrHi(u32, u32),
 }
 
-fn slot_ok(before: u32, slot: u32) -> bool
-    ensures { λ r. ⌜ r ≡ slotOk (slotAt before) (slotAt slot) ⌝ }
+fn slot_ok(before: Slot, slot: Slot) -> bool
+    ensures { λ r. ⌜ r ≡ slotOk before slot ⌝ }
 {
-    if slot < 1 {
+    if slot.0 < 1 {
         return false;
     }
-    if Record::SLOT < slot {
+    if Record::SLOT < slot.0 {
         return false;
     }
-    before <= slot
+    before.0 <= slot.0
 }
 
 fn value_taken(taken: Values, value: u32) -> bool
@@ -63,13 +64,13 @@ fn marking_ok(lo: u32, hi: u32, r: usize) -> bool
 
 // 5 and 6: the lowest packet with either, 5 first at one packet.
 fn packets(slots: &[u32], values: &[u32], taken: Values) -> Checked
-    requires { ⌜ Counted (now slots) (now values) ⌝ }
+    requires { ⌜ Lengths (now slots) (now values) ⌝ }
     ensures { λ r. ⌜ verdictOf r ≡ packetRefusal (okOf taken) (now (slots .entry)) (now (values .entry)) ⌝ }
 {
-    let mut before: u32 = 0;
+    let mut before = Slot(0);
     let mut i = 0;
     while i < slots.len() {
-        let slot = slots[i];
+        let slot = Slot(slots[i]);
         let place = i as u32 + 1;
         let slot_fits = slot_ok(before, slot);
         let value_fits = value_taken(taken, values[i]);

@@ -2,37 +2,48 @@
 use mathlib.Core.Path.{_≡_, sym, ap, _∙_}
 use borrow.Author.Needs.{needs}
 use native.Mathlib.Omega.{arith}
-use mathlib.Core.Bool.{true, false}
-use lib.ListN.{length}
 use borrow.Author.Tests.{not-true, not-false, le-leb, lt-leb}
 use lib.Dec.{leb}
+use lib.ListN.{length}
+use mathlib.Core.Bool.{true}
+use Rattle.model.specs.Refusals.{unless, roomOk, traceRefusal}
+use Rattle.trace.proofs.in_order.Statement.{statement}
+use Rattle.trace.proofs.in_order.Tie as tie
+use Rattle.trace.proofs.Laws.{Order, order, values-length}
 use Rattle.model.specs.Record.{Lists}
 use Rattle.trace.specs.Checked.{verdictOf, listsOf, okOf, lengthsEqual}
+use Rattle.model.specs.Rules.{Verdict}
 use Rattle.model.specs.Limits.{recordLimits}
-use Rattle.trace.proofs.in_order.Statement.{statement}
-use Rattle.model.specs.Refusals.{roomOk}
-use Rattle.trace.proofs.in_order.Tie as tie
-use Rattle.trace.proofs.Laws.{order-1, order-2, order-3, order-4, order-rest, values-length}
 
 -- where the lengths were tested
-abbrev start₁ : tie.After-lengths-equal → tie.Start
-start₁ c = c .before .before .before .before .before .before
+abbrev start : tie.After-lengths-equal → tie.Start
+start c = c .before .before .before .before .before .before
 
 -- the record's three lists there
-abbrev listsAt : tie.After-lengths-equal → Lists
-listsAt c = let a = start₁ c .args in listsOf (a .fates .now) (a .whens .now) (a .bys .now)
+abbrev lists : tie.After-lengths-equal → Lists
+lists c = let a = start c .args in listsOf (a .fates .now) (a .whens .now) (a .bys .now)
+
+-- the order in which the tests answer
+abbrev order-at : tie.After-lengths-equal → Verdict → Type 0
+order-at c = let a = start c .args in Order (a .own) (okOf (a .taken)) (a .slots .now) (a .values .now) (a .room) (lists c)
+
+tests : (c : tie.After-lengths-equal) → let a = start c .args in
+    order-at c (traceRefusal (unless (a .own) 4) (okOf (a .taken)) (a .slots .now) (a .values .now) (a .room) (lists c))
+tests c =
+    let a = start c .args in
+    order (a .own) (okOf (a .taken)) (a .slots .now) (a .values .now) (a .room) (lists c)
 
 -- the lengths are equal
-equal : (c : tie.Else1) → let a = start₁ (c .before) .args in
-    lengthsEqual (a .slots .now) (a .values .now) (listsAt (c .before)) ≡ true
+equal : (c : tie.Else1) → let a = start (c .before) .args in
+    lengthsEqual (a .slots .now) (a .values .now) (lists (c .before)) ≡ true
 equal c = sym (c .before .lengths-equal .ensures) ∙ not-false _ (c .if1 .left)
 
 -- there are not too many packets
-few : (c : tie.Else2) → leb (length (start₁ (c .before .before) .args .slots .now)) (recordLimits .packets) ≡ true
+few : (c : tie.Else2) → leb (length (start (c .before .before) .args .slots .now)) (recordLimits .packets) ≡ true
 few c = le-leb _ _ (c .if2 .left)
 
 -- room is in range
-roomy : (c : tie.Else3) → roomOk (start₁ (c .before .before .before .before) .args .room) ≡ true
+roomy : (c : tie.Else3) → roomOk (start (c .before .before .before .before) .args .room) ≡ true
 roomy c = sym (c .before .room-ok .ensures) ∙ not-false _ (c .if3 .left)
 
 lengths-equal-requires : tie.Need-lengths-equal-requires
@@ -43,19 +54,17 @@ refused-requires c κs = search needs
 
 returns : tie.Need-returns
 returns c =
-    let a = start₁ (c .before .before) .args in
     let test = c .before .before .lengths-equal in
     ap verdictOf (c .refused .ensures)
-    ∙ sym (order-1 (a .own) (okOf (a .taken)) (a .slots .now) (a .values .now) (a .room) (listsAt (c .before .before)) (sym (test .ensures) ∙ not-true (test .result) (c .before .if1 .taken)))
+    ∙ sym (tests (c .before .before) .by-lengths (sym (test .ensures) ∙ not-true (test .result) (c .before .if1 .taken)))
 
 refused-requires-2 : tie.Need-refused-requires-2
 refused-requires-2 c κs = search needs
 
 returns-2 : tie.Need-returns-2
 returns-2 c =
-    let a = start₁ (c .before .before .before) .args in
     ap verdictOf (c .refused2 .ensures)
-    ∙ sym (order-2 (a .own) (okOf (a .taken)) (a .slots .now) (a .values .now) (a .room) (listsAt (c .before .before .before)) (equal (c .before .before)) (lt-leb _ _ (c .before .if2 .taken)))
+    ∙ sym (tests (c .before .before .before) .by-packets (equal (c .before .before)) (lt-leb _ _ (c .before .if2 .taken)))
 
 room-ok-requires : tie.Need-room-ok-requires
 room-ok-requires c κs = search needs
@@ -67,9 +76,8 @@ returns-3 : tie.Need-returns-3
 returns-3 c =
     let test = c .before .before .room-ok in
     let few-then = c .before .before .before in
-    let a = start₁ (few-then .before .before) .args in
     ap verdictOf (c .refused3 .ensures)
-    ∙ sym (order-3 (a .own) (okOf (a .taken)) (a .slots .now) (a .values .now) (a .room) (listsAt (few-then .before .before)) (equal (few-then .before)) (few few-then) (sym (test .ensures) ∙ not-true (test .result) (c .before .if3 .taken)))
+    ∙ sym (tests (few-then .before .before) .by-room (equal (few-then .before)) (few few-then) (sym (test .ensures) ∙ not-true (test .result) (c .before .if3 .taken)))
 
 refused-requires-4 : tie.Need-refused-requires-4
 refused-requires-4 c κs = search needs
@@ -78,26 +86,24 @@ returns-4 : tie.Need-returns-4
 returns-4 c =
     let roomy-then = c .before .before in
     let few-then = roomy-then .before .before in
-    let a = start₁ (few-then .before .before) .args in
     ap verdictOf (c .refused4 .ensures)
-    ∙ sym (order-4 (a .own) (okOf (a .taken)) (a .slots .now) (a .values .now) (a .room) (listsAt (few-then .before .before)) (equal (few-then .before)) (few few-then) (roomy roomy-then) (not-true _ (c .before .if4 .taken)))
+    ∙ sym (tests (few-then .before .before) .by-own (equal (few-then .before)) (few few-then) (roomy roomy-then) (not-true _ (c .before .if4 .taken)))
 
 packets-requires : tie.Need-packets-requires
 packets-requires c κs =
     let few-then = c .before .before .before in
-    let a = start₁ (few-then .before .before) .args in
+    let a = start (few-then .before .before) .args in
     record {
-      lengths = values-length (a .slots .now) (a .values .now) (listsAt (few-then .before .before)) (equal (few-then .before));
-      packets = omega arith;
+      equal = values-length (a .slots .now) (a .values .now) (lists (few-then .before .before)) (equal (few-then .before));
+      few = omega arith;
     }
 
 returns-5 : tie.Need-returns-5
 returns-5 c =
     let roomy-then = c .before .before in
     let few-then = roomy-then .before .before in
-    let a = start₁ (few-then .before .before) .args in
     c .packets .ensures
-    ∙ sym (order-rest (a .own) (okOf (a .taken)) (a .slots .now) (a .values .now) (a .room) (listsAt (few-then .before .before)) (equal (few-then .before)) (few few-then) (roomy roomy-then) (not-false _ (c .before .if4 .left)))
+    ∙ sym (tests (few-then .before .before) .by-none (equal (few-then .before)) (few few-then) (roomy roomy-then) (not-false _ (c .before .if4 .left)))
 
 pub in-order-spec : {M : Type 1} → statement M
 in-order-spec =

@@ -1,6 +1,6 @@
 -- `trace::marking_ok` meets its contract: at each return the tests that led there decide the parts of `markingOk`.
-use borrow.Author.Tests.{not-true, not-false, lt-ltb, le-ltb}
 use borrow.Author.Needs.{needs}
+use borrow.Author.Tests.{not-true, not-false, lt-ltb, le-ltb}
 use Rattle.trace.proofs.marking_ok.Tie as tie
 use Rattle.trace.proofs.marking_ok.Statement.{statement}
 

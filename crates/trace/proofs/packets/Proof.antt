@@ -1,15 +1,15 @@
 -- `trace::packets` meets its contract. The loop's invariant: what the walk answers from the packet at place i on is what it answers of the whole trace.
-use Prim.Native.Nat.{_≤_, _-_}
+use borrow.Author.Needs.{needs}
 use mathlib.Core.Path.{_≡_, refl, sym, _∙_}
 use native.Mathlib.Omega.{arith}
-use borrow.Author.Needs.{needs}
-use borrow.Author.Tests.{not-true, not-false}
+use Prim.Native.Nat.{_≤_, _-_}
 use lib.ListN.{length}
-use Rattle.model.specs.Refusals.{packetRefusal}
-use Rattle.trace.specs.Checked.{okOf}
-use Rattle.trace.proofs.Laws.{Turn, turn, restFrom, turn-none}
-use Rattle.trace.proofs.packets.Statement.{statement}
+use borrow.Author.Tests.{not-true, not-false}
 use Rattle.trace.proofs.packets.Tie as tie
+use Rattle.trace.proofs.Laws.{Turn, turn, restFrom, turn-none}
+use Rattle.trace.specs.Checked.{okOf}
+use Rattle.trace.proofs.packets.Statement.{statement}
+use Rattle.model.specs.Refusals.{packetRefusal}
 
 abbrev Inv-loop : tie.InvT-loop
 Inv-loop slots values taken before₀ i₀ before i =
@@ -28,16 +28,16 @@ start c = c .before .before .before
 this-turn : (c : tie.After-value-taken Inv-loop μ-loop) → let a = start (at-loop c) .args in
     Turn (okOf (a .taken)) (a .slots .now) (a .values .now) (at-loop c .loop .before) (at-loop c .loop .i) (c .before .before .slot-ok .result) (c .value-taken .result)
 this-turn c =
-    turn _ _ _ _ _ (start (at-loop c) .pre .lengths) (c .before .before .before .before .loop-test .taken) (c .before .before .slot-ok .ensures) (c .value-taken .ensures)
+    turn _ _ _ _ _ (start (at-loop c) .pre .equal) (c .before .before .before .before .loop-test .taken) (c .before .before .slot-ok .ensures) (c .value-taken .ensures)
 
 loop-holds : tie.Need-loop-holds Inv-loop μ-loop
 loop-holds c = (omega arith, refl)
 
-mul-slot : tie.Need-mul-slot Inv-loop μ-loop
-mul-slot c = omega arith
+mul-place : tie.Need-mul-place Inv-loop μ-loop
+mul-place c = omega arith
 
-shared-slice-read-slot : tie.Need-shared-slice-read-slot Inv-loop μ-loop
-shared-slice-read-slot c = omega arith
+shared-slice-read-place : tie.Need-shared-slice-read-place Inv-loop μ-loop
+shared-slice-read-place c = omega arith
 
 cast-place : tie.Need-cast-place Inv-loop μ-loop
 cast-place c = omega arith
@@ -91,8 +91,8 @@ packets-spec =
     Inv-loop
     μ-loop
     loop-holds
-    mul-slot
-    shared-slice-read-slot
+    mul-place
+    shared-slice-read-place
     cast-place
     add-place
     slot-ok-requires

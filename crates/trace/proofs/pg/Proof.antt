@@ -1,8 +1,8 @@
 -- `trace::pg` meets its contract: `pgRefusal` is the order of every call, with beta tested as its own.
 use borrow.Author.Needs.{needs}
 use Rattle.trace.proofs.pg.Tie as tie
-use Rattle.trace.proofs.pg.Statement.{statement}
 use Rattle.model.specs.Refusals.{pgRefusal}
+use Rattle.trace.proofs.pg.Statement.{statement}
 
 beta-ok-requires : tie.Need-beta-ok-requires
 beta-ok-requires c κs = search needs

@@ -1,8 +1,8 @@
 -- `trace::plain` meets its contract: `plainRefusal` is the order of every call, with nothing of its own and all values in range taken.
 use borrow.Author.Needs.{needs}
+use Rattle.trace.proofs.plain.Tie as tie
 use Rattle.model.specs.Refusals.{plainRefusal}
 use Rattle.trace.proofs.plain.Statement.{statement}
-use Rattle.trace.proofs.plain.Tie as tie
 
 in-order-requires : tie.Need-in-order-requires
 in-order-requires c κs = search needs

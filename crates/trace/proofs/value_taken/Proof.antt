@@ -1,10 +1,10 @@
 -- `trace::value_taken` meets its contract: a value out of range is never taken, and where it is in range the arm of the match says what else is asked.
-use borrow.Author.Tests.{not-true, not-false, eq-eqb, ne-eqb}
-use borrow.Author.Needs.{needs}
 use mathlib.Core.Path.{sym, _∙_}
-use Rattle.trace.proofs.Laws.{refuses}
+use borrow.Author.Needs.{needs}
+use borrow.Author.Tests.{not-true, not-false, eq-eqb, ne-eqb}
 use Rattle.trace.proofs.value_taken.Tie as tie
 use Rattle.trace.proofs.value_taken.Statement.{statement}
+use Rattle.trace.proofs.Laws.{refuses}
 
 value-ok-requires : tie.Need-value-ok-requires
 value-ok-requires c κs = search needs

@@ -1,4 +1,5 @@
-use Rattle.runs.specs.Run.{policyOf}
+use Rattle.model.specs.Course.{byRule}
+use Rattle.queue.specs.Choose.{ruleOf}
 use Rattle.runs.proofs.Answering.{all-written, countable, answered}
 use borrow.Author.Needs.{needs}
 use Rattle.runs.proofs.calls.finish.Statement.{statement}
@@ -18,7 +19,7 @@ totals-requires c κs =
     let start = c .before .before .before .before .before .before .before .before .before .before .before .before .before .before .before .before in
     let a = start .args in
     let done = c .before .before .before .before .before .before .before .run in
-    let P = policyOf (a .room) (a .rule) in
+    let P = byRule (ruleOf (a .room) (a .rule)) in
     countable P (a .slots .now) (a .values .now) _ (start .pre) _ (all-written P (a .slots .now) (a .values .now) _ (start .pre) _ (done .ensures .written))
 
 -- src/calls.rt:18:1
@@ -39,7 +40,7 @@ returns c =
     let start = c .before .before .before .before .before .before .before .before .before .before .before .before .before .before .before .before .before in
     let a = start .args in
     let done = c .before .before .before .before .before .before .before .before .run in
-    let P = policyOf (a .room) (a .rule) in
+    let P = byRule (ruleOf (a .room) (a .rule)) in
     answered P (a .slots .now) (a .values .now) _ (start .pre) _ (all-written P (a .slots .now) (a .values .now) _ (start .pre) _ (done .ensures .written))
     (done .result) (done .ensures .longest) (c .totals .result) (c .totals .ensures)
 

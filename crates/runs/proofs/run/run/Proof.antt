@@ -4,6 +4,7 @@ use mathlib.Core.Logic.{⊎-elim}
 use native.Mathlib.Omega.{arith}
 use borrow.Author.Needs.{needs}
 use lib.ListN.{length}
+use Rattle.queue.specs.Choose.{ruleOf}
 use Rattle.runs.specs.Entry.{lists}
 use Rattle.runs.proofs.Running.{Going, going-start, going-free, most-fits, going-turn, going-end}
 use Rattle.runs.proofs.run.run.Statement.{statement}
@@ -18,7 +19,7 @@ Inv-loop slots values room rule fates₀ whens₀ bys₀ numbers₀ held₀ head
     (length fates ≡ length fates₀)
     × (length whens ≡ length whens₀)
     × (length bys ≡ length bys₀)
-    × Going room rule slots values (lists fates₀ whens₀ bys₀) numbers held head tail last most i (lists fates whens bys)
+    × Going (ruleOf room rule) slots values (lists fates₀ whens₀ bys₀) numbers held head tail last most i (lists fates whens bys)
 
 abbrev μ-loop : tie.MeasureT-loop
 μ-loop slots values room rule fates₀ whens₀ bys₀ numbers₀ held₀ head₀ tail₀ last₀ most₀ i₀ fates whens bys numbers held head tail last most i = length slots - i
@@ -27,7 +28,7 @@ abbrev μ-loop : tie.MeasureT-loop
 loop-holds : tie.Need-loop-holds Inv-loop μ-loop
 loop-holds c =
     let a = c .before .before .before .before .before .args in
-    (refl, refl, refl, going-start (a .room) (a .rule) (a .slots .now) (a .values .now) _ _ _ (search needs) (search needs))
+    (refl, refl, refl, going-start (ruleOf (a .room) (a .rule)) (a .slots .now) (a .values .now) _ _ _ (search needs) (search needs))
 
 -- src/run.rt:30:20
 mul-slot : tie.Need-mul-slot Inv-loop μ-loop
@@ -92,7 +93,7 @@ loop-again c =
       taken .kept .1 .1 .0 ∙ loop .loop .inv .0,
       taken .kept .1 .1 .1 .0 ∙ loop .loop .inv .1,
       taken .kept .1 .1 .1 .1 .0 ∙ loop .loop .inv .2,
-      going-turn (a .room) (a .rule) (a .slots .now) (a .values .now) _ (start .pre) _ _ (loop .loop .head) (loop .loop .tail) (loop .loop .last) (loop .loop .most)
+      going-turn (ruleOf (a .room) (a .rule)) (a .slots .now) (a .values .now) _ (start .pre) _ _ (loop .loop .head) (loop .loop .tail) (loop .loop .last) (loop .loop .most)
           (loop .loop .i) _ (loop .loop .inv .3) (c .before .before .before .before .before .before .before .before .before .before .before .before .before .before .before .before .before .loop-test .taken) (taken .result) (taken .last .0) (taken .last .1 .0) _ (c .if1 .most) (taken .ensures) (taken .kept .1 .0) most,
     )
 
@@ -143,7 +144,7 @@ returns c =
     let loop = c .before .before .before .before .before .before .before .before .before .before .before .before .before in
     let sent = c .before .before .before .before .before .before .send-until in
     let a = start .args in
-    going-end (a .room) (a .rule) (a .slots .now) (a .values .now) _ (start .pre) _ _ (loop .loop .head) (loop .loop .tail) (loop .loop .last) (loop .loop .most) (loop .loop .i) _
+    going-end (ruleOf (a .room) (a .rule)) (a .slots .now) (a .values .now) _ (start .pre) _ _ (loop .loop .head) (loop .loop .tail) (loop .loop .last) (loop .loop .most) (loop .loop .i) _
     (loop .loop .inv .3) (c .before .before .before .before .before .before .before .before .before .before .before .before .loop-test .left) (sent .result) _ _ refl (sent .ensures)
 
 pub run-spec : {M : Type 1} → statement M

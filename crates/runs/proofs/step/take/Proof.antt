@@ -1,3 +1,4 @@
+use Rattle.queue.specs.Choose.{ruleOf}
 use Rattle.runs.specs.Window.{windowOf}
 use Rattle.runs.specs.Step.{arrival}
 use Rattle.runs.proofs.Turning.{sent-free, turned}
@@ -50,7 +51,7 @@ returns c =
     let a = start .args in
     let sent = c .before .before .before .before .before .before .before .before .before .before .before .before .before .before .before .before .before .before .before .before .before .before .send-until in
     let arrived = c .before .before .before .before .before .before .before .before .before .before .arrive in
-    turned (a .room) (a .rule) (a .before) (arrival (a .slot) (a .p)) (windowOf (a .w) (a .numbers .now) (a .values .now)) _ _ _ (sent .result) (arrived .result)
+    turned (ruleOf (a .room) (a .rule)) (a .before) (arrival (a .slot) (a .p)) (windowOf (a .w) (a .numbers .now) (a .values .now)) _ _ _ (sent .result) (arrived .result)
     (a .numbers .now) (a .values .now) (arrived .last .0) (arrived .last .1 .0) (sent .ensures) (arrived .ensures)
 
 pub take-spec : {M : Type 1} → statement M

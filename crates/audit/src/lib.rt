@@ -1,0 +1,352 @@
+// The audit of anyone's record: the first fault against the buffer's rules, or the totals. What it answers stands in crate model.
+ghost use mathlib.Core.Path.{_≡_};
+ghost use mathlib.Core.Bool.{false, cond};
+ghost use Prim.Native.Nat.{suc, _+_, _≤_, _<_, max};
+ghost use lib.ListN.{length};
+ghost use Rattle.model.specs.Packets.{slotOf, arrivals};
+ghost use Rattle.model.specs.Record.{rows};
+ghost use Rattle.model.specs.Refusals.{valueOk};
+ghost use Rattle.model.specs.Answers.{ofAudit};
+ghost use Rattle.model.specs.Calls.{auditCall};
+ghost use Rattle.model.specs.declared.Fate.the-variants as Fate;
+ghost use Rattle.model.specs.Limits.{recordLimits, within};
+ghost use Rattle.model.specs.Rules.{hasFate, byWrong, whenWrong};
+ghost use Rattle.trace.specs.Checked.{listsOf};
+ghost use Rattle.trace.specs.Tested.{Rising, Tested};
+ghost use Rattle.audit.specs.Tallies.{countsFate, tallyIn, totalsIn, Tallied};
+ghost use Rattle.audit.specs.Rows.{rowOf, rowAt, Names, Reads, Place};
+ghost use Rattle.audit.specs.Sweep.{upTo, leaveOf, lastOf, notAfter, entryFault, foundOf, SweptAs};
+use model::AuditAnswer;
+use model::Fate;
+use model::Fault;
+use model::FirstFault;
+use model::PacketNumber;
+use model::Record;
+use model::Slot;
+use model::Tally;
+use model::Totals;
+use trace::Checked;
+
+// What a record's number of a fate names.
+enum Named {
+    Fate(Fate),
+    Outside,
+}
+
+// A packet of the trace beside what the record says of it, its fate being one.
+struct Entry {
+    number: PacketNumber,
+    slot: Slot,
+    value: u32,
+    fate: Fate,
+    when: Slot,
+    by: PacketNumber,
+}
+
+// The first fault of one packet.
+enum Found {
+    Nothing,
+    Fault(Fault),
+}
+
+// What stands at a place: an entry, or a fate that is none.
+enum Read {
+    Entry(Entry),
+    Outside,
+}
+
+// What the sweep over all packets finds: no fault and the most held, or the first fault.
+enum Swept {
+    Clear(u32),
+    Faulty(FirstFault),
+}
+
+// Which packets a tally counts.
+enum Counted {
+    Every,
+    Of(Fate),
+}
+
+fn fate_of(number: u32) -> Named
+    ensures { λ r. ⌜ Names number r ⌝ }
+{
+    match number {
+        1 => Named::Fate(Fate::Sent),
+        2 => Named::Fate(Fate::Rejected),
+        3 => Named::Fate(Fate::PushedOut),
+        4 => Named::Fate(Fate::Preempted),
+        5 => Named::Fate(Fate::Flushed),
+        _ => Named::Outside,
+    }
+}
+
+// The by of a packet that was lost or flushed is that of a later packet of the trace.
+fn by_later(packets: usize, entry: Entry) -> bool
+    ensures { λ r. ⌜ r ≡ within (suc (entry .number .0)) packets (entry .by .0) ⌝ }
+{
+    entry.number.0 < entry.by.0 && entry.by.0 as usize <= packets
+}
+
+fn by_wrong(packets: usize, entry: Entry) -> bool
+    ensures { λ r. ⌜ r ≡ byWrong packets (rowOf entry) ⌝ }
+{
+    let fate = entry.fate;
+    match fate {
+        Fate::Sent => entry.by.0 != 0,
+        Fate::Rejected => entry.by.0 != entry.number.0,
+        Fate::PushedOut => !by_later(packets, entry),
+        Fate::Preempted => !by_later(packets, entry),
+        Fate::Flushed => !by_later(packets, entry),
+    }
+}
+
+// The slot of the packet that `by` names, which is one of the trace.
+fn slot_of(slots: &[u32], by: PacketNumber) -> Slot
+    requires { ⌜ (0 < by .0) × (by .0 ≤ length (now slots)) ⌝ }
+    ensures { λ r. ⌜ r ≡ slotOf (now (slots .entry)) by ⌝ }
+{
+    let place = by.0 as usize - 1;
+    Slot(slots[place])
+}
+
+fn when_wrong(slots: &[u32], entry: Entry) -> bool
+    requires { ⌜ byWrong (length (now slots)) (rowOf entry) ≡ false ⌝ }
+    ensures { λ r. ⌜ r ≡ whenWrong (now (slots .entry)) (rowOf entry) ⌝ }
+{
+    let fate = entry.fate;
+    match fate {
+        Fate::Sent => entry.when.0 < entry.slot.0,
+        Fate::Rejected => entry.when.0 != entry.slot.0,
+        Fate::PushedOut => entry.when.0 != slot_of(slots, entry.by).0,
+        Fate::Preempted => entry.when.0 != slot_of(slots, entry.by).0,
+        Fate::Flushed => entry.when.0 < slot_of(slots, entry.by).0,
+    }
+}
+
+// How many slots at the front of the trace are not after `when`, by halving.
+fn up_to(slots: &[u32], when: Slot) -> usize
+    requires { ⌜ Rising (now slots) ⌝ }
+    ensures { λ r. ⌜ r ≡ upTo (now (slots .entry)) (when .0) ⌝ }
+{
+    let mut low = 0;
+    let mut high = slots.len();
+    while low < high {
+        let middle = low + (high - low) / 2;
+        if slots[middle] <= when.0 {
+            low = middle + 1;
+        } else {
+            high = middle;
+        }
+    }
+    low
+}
+
+// The place of the first arrival at which the packet is held no more.
+fn leave_of(slots: &[u32], entry: Entry) -> usize
+    requires { ⌜ Rising (now slots) × (byWrong (length (now slots)) (rowOf entry) ≡ false) ⌝ }
+    ensures { λ r. ⌜ r ≡ leaveOf (now (slots .entry)) (rowOf entry) ⌝ }
+{
+    let fate = entry.fate;
+    match fate {
+        Fate::Sent => up_to(slots, entry.when),
+        Fate::Rejected => 0,
+        Fate::PushedOut => entry.by.0 as usize - 1,
+        Fate::Preempted => entry.by.0 as usize - 1,
+        Fate::Flushed => up_to(slots, entry.when),
+    }
+}
+
+fn is_sent(entry: Entry) -> bool
+    ensures { λ r. ⌜ r ≡ hasFate Fate.Sent (rowOf entry) ⌝ }
+{
+    let fate = entry.fate;
+    fate.number() == Fate::Sent.number()
+}
+
+// The when of the last packet sent, this one included; 0 where none was.
+fn last_of(last: Slot, entry: Entry) -> Slot
+    ensures { λ r. ⌜ r ≡ lastOf last (rowOf entry) ⌝ }
+{
+    if is_sent(entry) {
+        return entry.when;
+    }
+    last
+}
+
+fn not_later(last: Slot, entry: Entry) -> bool
+    ensures { λ r. ⌜ r ≡ notAfter (last .0) (rowOf entry) ⌝ }
+{
+    if !is_sent(entry) {
+        return false;
+    }
+    entry.when.0 <= last.0
+}
+
+// Faults 12, 13 and 14 of one packet, in this order.
+fn fault_of(slots: &[u32], last: Slot, entry: Entry) -> Found
+    ensures { λ r. ⌜ foundOf r (entry .number) ≡ entryFault (now (slots .entry)) (last .0) (rowOf entry) ⌝ }
+{
+    if by_wrong(slots.len(), entry) {
+        return Found::Fault(Fault::ByWrong);
+    }
+    let wrong = when_wrong(slots, entry);
+    let late = not_later(last, entry);
+    if wrong {
+        return Found::Fault(Fault::WhenWrong);
+    }
+    if late {
+        return Found::Fault(Fault::NotLater);
+    }
+    Found::Nothing
+}
+
+fn entry_at(
+    slots: &[u32],
+    values: &[u32],
+    fates: &[u32],
+    whens: &[u32],
+    bys: &[u32],
+    i: usize,
+) -> Read
+    requires { ⌜ Place (now slots) (now values) (listsOf (now fates) (now whens) (now bys)) i ⌝ }
+    ensures { λ r. ⌜ Reads (rowAt (now (slots .entry)) (now (values .entry)) (listsOf (now (fates .entry)) (now (whens .entry)) (now (bys .entry))) i) r ⌝ }
+{
+    let Named::Fate(fate) = fate_of(fates[i]) else {
+        return Read::Outside;
+    };
+    Read::Entry(Entry {
+        number: PacketNumber(i as u32 + 1),
+        slot: Slot(slots[i]),
+        value: values[i],
+        fate,
+        when: Slot(whens[i]),
+        by: PacketNumber(bys[i]),
+    })
+}
+
+fn only_if(test: bool, n: u32) -> u32
+    ensures { λ r. ⌜ r ≡ cond test n 0 ⌝ }
+{
+    if test { n } else { 0 }
+}
+
+fn greater(a: u32, b: u32) -> u32
+    ensures { λ r. ⌜ r ≡ max a b ⌝ }
+{
+    if a < b { b } else { a }
+}
+
+// The fault of the packet at place i.
+fn faulty(fault: Fault, i: usize) -> Swept
+    requires { ⌜ i < recordLimits .packets ⌝ }
+    ensures { λ r. ⌜ r ≡ Swept.Faulty (record { fault = fault; packet = record { 0 = i + 1 } }) ⌝ }
+{
+    Swept::Faulty(FirstFault {
+        fault,
+        packet: PacketNumber(i as u32 + 1),
+    })
+}
+
+// One sweep over the packets. leaving[k] counts the packets passed that are held no more from the arrival at place k on.
+fn sweep(
+    slots: &[u32],
+    values: &[u32],
+    room: usize,
+    fates: &[u32],
+    whens: &[u32],
+    bys: &[u32],
+) -> Swept
+    requires { ⌜ Tested valueOk (now slots) (now values) room (listsOf (now fates) (now whens) (now bys)) ⌝ }
+    ensures { λ r. ⌜ SweptAs (record { slots = now (slots .entry); room = room }) (rows (arrivals (now (slots .entry)) (now (values .entry))) (listsOf (now (fates .entry)) (now (whens .entry)) (now (bys .entry)))) r ⌝ }
+{
+    let mut leaving = [0u32; Record::PACKETS + 1];
+    let mut held: u32 = 0;
+    let mut most: u32 = 0;
+    let mut last = Slot(0);
+    let mut i = 0;
+    while i < slots.len() {
+        let Read::Entry(entry) = entry_at(slots, values, fates, whens, bys, i) else {
+            return faulty(Fault::FateOutside, i);
+        };
+        if let Found::Fault(fault) = fault_of(slots, last, entry) {
+            return faulty(fault, i);
+        }
+        last = last_of(last, entry);
+        let leave = leave_of(slots, entry);
+        let stays = only_if(i < leave, 1);
+        held = held - leaving[i] + stays;
+        leaving[leave] += stays;
+        if room < held as usize {
+            return faulty(Fault::OverRoom, i);
+        }
+        most = greater(most, held);
+        i += 1;
+    }
+    Swept::Clear(most)
+}
+
+fn is_counted(which: Counted, fate: u32) -> bool
+    ensures { λ r. ⌜ r ≡ countsFate which fate ⌝ }
+{
+    match which {
+        Counted::Every => true,
+        Counted::Of(known) => fate == known.number(),
+    }
+}
+
+fn tally_of(values: &[u32], fates: &[u32], which: Counted) -> Tally
+    requires { ⌜ Tallied (now values) (now fates) ⌝ }
+    ensures { λ r. ⌜ r ≡ tallyIn which (now (values .entry)) (now (fates .entry)) ⌝ }
+{
+    let mut count: u32 = 0;
+    let mut value: u32 = 0;
+    let mut i = 0;
+    while i < values.len() {
+        let counted = is_counted(which, fates[i]);
+        count += only_if(counted, 1);
+        value += only_if(counted, values[i]);
+        i += 1;
+    }
+    Tally { count, value }
+}
+
+fn totals_of(values: &[u32], fates: &[u32], most: u32) -> Totals
+    requires { ⌜ Tallied (now values) (now fates) ⌝ }
+    ensures { λ r. ⌜ r ≡ totalsIn (now (values .entry)) (now (fates .entry)) most ⌝ }
+{
+    let arrived = tally_of(values, fates, Counted::Every);
+    let sent = tally_of(values, fates, Counted::Of(Fate::Sent));
+    let rejected = tally_of(values, fates, Counted::Of(Fate::Rejected));
+    let pushed_out = tally_of(values, fates, Counted::Of(Fate::PushedOut));
+    let preempted = tally_of(values, fates, Counted::Of(Fate::Preempted));
+    let flushed = tally_of(values, fates, Counted::Of(Fate::Flushed));
+    Totals {
+        arrived,
+        sent,
+        rejected,
+        pushed_out,
+        preempted,
+        flushed,
+        most_held: most,
+    }
+}
+
+// The audit of a record: refusals 1, 2, 3, 5 and 6, then the first fault, else the totals.
+pub fn audit(
+    slots: &[u32],
+    values: &[u32],
+    room: usize,
+    fates: &[u32],
+    whens: &[u32],
+    bys: &[u32],
+) -> AuditAnswer
+    ensures { λ r. ⌜ ofAudit r ≡ auditCall (now (slots .entry)) (now (values .entry)) room (listsOf (now (fates .entry)) (now (whens .entry)) (now (bys .entry))) ⌝ }
+{
+    if let Checked::Refused(refusal) = trace::plain(slots, values, room, fates, whens, bys) {
+        return AuditAnswer::Refused(refusal);
+    }
+    match sweep(slots, values, room, fates, whens, bys) {
+        Swept::Clear(most) => AuditAnswer::Passed(totals_of(values, fates, most)),
+        Swept::Faulty(fault) => AuditAnswer::Faulty(fault),
+    }
+}

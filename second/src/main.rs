@@ -1,0 +1,93 @@
+//! The second program: answers the random cases of CASES.md by the rules of the scope, from which
+//! alone it was written. It shares nothing with the proved crates.
+
+#![forbid(unsafe_code)]
+#![allow(
+    clippy::manual_find,
+    clippy::manual_range_contains,
+    clippy::needless_range_loop
+)]
+
+mod byhand;
+mod cases;
+mod port;
+mod rules;
+
+use std::io::{self, BufWriter, Write};
+use std::process::ExitCode;
+
+const USAGE: &str = "usage: second                  the sums of all batches
+       second C                every number of case C
+       second --drawn C        the trace and parameters of case C
+       second --check-by-hand  the scope's numbers to check by hand";
+
+fn main() -> ExitCode {
+    let arguments: Vec<String> = std::env::args_os()
+        .skip(1)
+        .map(|argument| argument.to_string_lossy().into_owned())
+        .collect();
+    let words: Vec<&str> = arguments.iter().map(String::as_str).collect();
+    let written = match words[..] {
+        [] => write_sums(),
+        ["--check-by-hand"] => return check_by_hand(),
+        ["--drawn", c] => match c.parse::<u32>() {
+            Ok(c) => write_text(&cases::drawn(u64::from(c))),
+            Err(_) => return usage(),
+        },
+        [c] => match c.parse::<u32>() {
+            Ok(c) => write_case(u64::from(c)),
+            Err(_) => return usage(),
+        },
+        _ => return usage(),
+    };
+    match written {
+        Ok(()) => ExitCode::SUCCESS,
+        Err(_) => ExitCode::FAILURE,
+    }
+}
+
+fn usage() -> ExitCode {
+    let _ = writeln!(io::stderr(), "{USAGE}");
+    ExitCode::FAILURE
+}
+
+fn write_text(text: &str) -> io::Result<()> {
+    let mut out = io::stdout().lock();
+    out.write_all(text.as_bytes())?;
+    out.flush()
+}
+
+fn write_sums() -> io::Result<()> {
+    let mut out = io::stdout().lock();
+    for batch in 0..cases::CASES / cases::BATCH {
+        writeln!(out, "{},{}", batch, cases::sum_of_batch(batch))?;
+    }
+    out.flush()
+}
+
+fn write_case(c: u64) -> io::Result<()> {
+    let mut out = BufWriter::new(io::stdout().lock());
+    for call in cases::calls(c) {
+        write!(out, "{}", call.what)?;
+        for x in call.numbers {
+            write!(out, " {x}")?;
+        }
+        writeln!(out)?;
+    }
+    out.flush()
+}
+
+fn check_by_hand() -> ExitCode {
+    let (passed, differing) = byhand::run();
+    let mut text = String::new();
+    for line in &differing {
+        text += &format!("{line}\n");
+    }
+    text += &format!("{passed} passed, {} failed\n", differing.len());
+    let written = write_text(&text);
+    if differing.is_empty() && written.is_ok() {
+        ExitCode::SUCCESS
+    } else {
+        ExitCode::FAILURE
+    }
+}
