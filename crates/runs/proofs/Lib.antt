@@ -4,6 +4,7 @@ pub mod Arriving
 pub mod Turning
 pub mod Counting
 pub mod Places
+pub mod Coursing
 pub mod Running
 pub mod Ordering
 pub mod Keeping

@@ -26,7 +26,7 @@ fn finish(
     whens: &mut [u32],
     bys: &mut [u32],
 ) -> RunAnswer
-    requires { ⌜ Ready (byRule (ruleOf room rule)) (now slots) (now values) (lists (now fates) (now whens) (now bys)) ⌝ }
+    requires { ⌜ Ready (byRule (ruleOf room rule)) [] (now slots) (now values) (lists (now fates) (now whens) (now bys)) ⌝ }
     ensures { λ r. ⌜ outcome r (lists (now (fates .exit)) (now (whens .exit)) (now (bys .exit))) ≡ ran (now (slots .entry)) (now (values .entry)) (course (byRule (ruleOf room rule)) first [] (arrivals (now (slots .entry)) (now (values .entry)))) ⌝ }
 {
     let most = run(slots, values, room, rule, fates, whens, bys);
@@ -77,7 +77,7 @@ fn finish_plan(
     whens: &mut [u32],
     bys: &mut [u32],
 ) -> RunAnswer
-    requires { ⌜ Ready (byRule (planRule room (now slots) (now values))) (now slots) (now values) (lists (now fates) (now whens) (now bys)) ⌝ }
+    requires { ⌜ Ready (byRule (planRule room (now slots) (now values))) [] (now slots) (now values) (lists (now fates) (now whens) (now bys)) ⌝ }
     requires { ⌜ Plannable room (now slots) (now values) ⌝ }
     ensures { λ r. ⌜ outcome r (lists (now (fates .exit)) (now (whens .exit)) (now (bys .exit))) ≡ ran (now (slots .entry)) (now (values .entry)) (course (byRule (planRule room (now (slots .entry)) (now (values .entry)))) first [] (arrivals (now (slots .entry)) (now (values .entry)))) ⌝ }
 {
