@@ -198,7 +198,8 @@ impl Port {
         requires { ⌜ self .last .0 < portLimits .number ⌝ }
         ensures { λ r. ⌜ arrivalOf r ≡ arriveCall (stateOf self) value ⌝ }
     {
-        let number = PacketNumber(self.last.0 + 1);
+        let last = self.last;
+        let number = PacketNumber(last.0 + 1);
         let packet = Packet { number, value };
         let beta = self.beta;
         let held = self.held;

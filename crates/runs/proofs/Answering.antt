@@ -182,6 +182,6 @@ module _ (slots values : List ℕ) (room : ℕ) (lists : Lists) where
           room-to = T .room-to;
           slot-from = T .packets .slot-from;
           slots-fit = T .packets .slot-to;
-          sorted = T .packets .sorted;
+          sorted = T .packets .rising;
         },
       )

@@ -26,33 +26,33 @@ placed c = sound-placed (stateOf (c .args .self)) (c .pre .0) (values-whole (c .
 
 -- what the decision allows, and what it makes of the call
 allowed : (c : tie.After-decide) (choice : Choice) → c .decide .result ≡ choice
-    → Allowed (c .before .before .before .before .before .args .self .room) (c .before .before .before .before .before .args .self .held) choice
+    → Allowed (c .before .before .before .before .before .before .args .self .room) (c .before .before .before .before .before .before .args .self .held) choice
 allowed c choice e =
-    let start = c .before .before .before .before .before in
+    let start = c .before .before .before .before .before .before in
     now-allowed (stateOf (start .args .self)) (values-whole (start .args .self) (start .good .0)) (numbers-whole (start .args .self) (start .good .0)) (start .args .value) choice
     (sym (c .decide .ensures) ∙ e) (placed start .0)
 
 answered : (c : tie.After-decide) (choice : Choice) → c .decide .result ≡ choice
-    → chosen (stateOf (c .before .before .before .before .before .args .self)) (c .before .before .before .before .before .args .value)
+    → chosen (stateOf (c .before .before .before .before .before .before .args .self)) (c .before .before .before .before .before .before .args .value)
     (record {
-      number = record { 0 = c .before .before .before .before .before .args .self .last .0 + 1 };
-      value = c .before .before .before .before .before .args .value;
+      number = record { 0 = c .before .before .before .before .before .before .args .self .last .0 + 1 };
+      value = c .before .before .before .before .before .before .args .value;
     })
     choice
-    ≡ arriveCall (stateOf (c .before .before .before .before .before .args .self)) (c .before .before .before .before .before .args .value)
+    ≡ arriveCall (stateOf (c .before .before .before .before .before .before .args .self)) (c .before .before .before .before .before .before .args .value)
 answered c choice e =
-    let start = c .before .before .before .before .before in
+    let start = c .before .before .before .before .before .before in
     by-choice (stateOf (start .args .self)) (values-whole (start .args .self) (start .good .0)) (numbers-whole (start .args .self) (start .good .0)) (start .args .value) choice
     (sym (c .decide .ensures) ∙ e) (start .pre .0) (start .pre .1 .0) (start .pre .1 .1)
 
-add-t13 : tie.Need-add-t13
-add-t13 c = search needs
+add-t14 : tie.Need-add-t14
+add-t14 c = search needs
 
 array-share-prefix-values : tie.Need-array-share-prefix-values
-array-share-prefix-values c = omega (arith, placed (c .before .before .before) .0, values-whole (c .before .before .before .args .self) (c .before .before .before .good .0))
+array-share-prefix-values c = omega (arith, placed (c .before .before .before .before) .0, values-whole (c .before .before .before .before .args .self) (c .before .before .before .before .good .0))
 
 slice-aggregate-decide : tie.Need-slice-aggregate-decide
-slice-aggregate-decide c = simp length-take (omega (arith, placed (c .before .before .before .before) .0, values-whole (c .before .before .before .before .args .self) (c .before .before .before .before .good .0)))
+slice-aggregate-decide c = simp length-take (omega (arith, placed (c .before .before .before .before .before) .0, values-whole (c .before .before .before .before .before .args .self) (c .before .before .before .before .before .good .0)))
 
 decide-requires : tie.Need-decide-requires
 decide-requires c κs = search needs
@@ -62,7 +62,7 @@ enum-told c = search needs
 
 hold-requires : tie.Need-hold-requires
 hold-requires c κs =
-    let start = c .before .before .before .before .before .before .before in
+    let start = c .before .before .before .before .before .before .before .before in
     let port = stateOf (start .args .self) in
     let free = allowed (c .before .before) Hold (c .enum-told .given .1) in
     (placed start .1, omega (arith, free, room-fits (port .room) (sound-parts port (start .pre .0) .room-ok)))
@@ -75,25 +75,25 @@ enum-known-place c = search needs
 
 take-requires : tie.Need-take-requires
 take-requires c κs =
-    let start = c .before .before .before .before .before .before .before .before in
+    let start = c .before .before .before .before .before .before .before .before .before in
     (placed start .1, (placed start .0, allowed (c .before .before .before) _ (c .before .place .given .1)))
 
 hold-requires-2 : tie.Need-hold-requires-2
 hold-requires-2 c κs =
-    let start = c .before .before .before .before .before .before .before .before .before .before .before in
+    let start = c .before .before .before .before .before .before .before .before .before .before .before .before in
     let told = c .before .before .before .before .place .given in
     let taken = c .before .before .take in
     rest-placed (stateOf (start .args .self)) (placed start .1) (placed start .0) (told .0 .0) (allowed (c .before .before .before .before .before .before) _ (told .1)) (taken .result) (taken .ensures)
 
 returns : tie.Need-returns
 returns c =
-    let port = stateOf (c .before .before .before .before .before .before .before .before .args .self) in
+    let port = stateOf (c .before .before .before .before .before .before .before .before .before .args .self) in
     ap (λ (after : PortState). record { reply = ofArrival (Held (record { 0 = port .last .0 + 1 })); port = after }) (c .hold .ensures)
     ∙ answered (c .before .before .before) Hold (c .before .enum-told .given .1)
 
 returns-2 : tie.Need-returns-2
 returns-2 c =
-    let start = c .before .before .before .before .before .before .before in
+    let start = c .before .before .before .before .before .before .before .before in
     let port = stateOf (start .args .self) in
     let number : PacketNumber = record { 0 = port .last .0 + 1 } in
     ap (λ (after : PortState). record { reply = ofArrival (Rejected number); port = after }) (holds-same port (placed start .1) number)
@@ -101,7 +101,7 @@ returns-2 c =
 
 returns-3 : tie.Need-returns-3
 returns-3 c =
-    let start = c .before .before .before .before .before .before .before .before .before .before .before .before in
+    let start = c .before .before .before .before .before .before .before .before .before .before .before .before .before in
     let port = stateOf (start .args .self) in
     let told = c .before .before .before .before .before .place .given in
     let taken = c .before .before .before .take in
@@ -117,7 +117,7 @@ pub accept-spec : {M : Type 1} → statement M
 accept-spec =
     tie.close
     (tie.spec
-    add-t13
+    add-t14
     array-share-prefix-values
     slice-aggregate-decide
     decide-requires
