@@ -14,3 +14,4 @@ pub mod Marking
 pub mod Flushing
 pub mod Ending
 pub mod Finishing
+pub mod RunningMF
