@@ -30,10 +30,10 @@ module _ (kept : List ℕ) (queue : List Packet) (p : Packet) (place : ℕ) (at 
   kept-rejects n = rw (← at, ne-eqb (getD kept place 0) 1 n) refl
 
 -- no packet is kept yet
-pub none-kept : (n many : ℕ) → n ≤ many → take {A = ℕ} n (replicate many 0) ≡ replicate n 0
-none-kept zero many h = refl
-none-kept (suc n) zero h = absurd (omega arith)
-none-kept (suc n) (suc many) h = ap (λ (kept : List ℕ). 0 ∷ kept) (none-kept n many (omega arith))
+pub first-zeros : (n many : ℕ) → n ≤ many → take {A = ℕ} n (replicate many 0) ≡ replicate n 0
+first-zeros zero many h = refl
+first-zeros (suc n) zero h = absurd (omega arith)
+first-zeros (suc n) (suc many) h = ap (λ (kept : List ℕ). 0 ∷ kept) (first-zeros n many (omega arith))
 
 module _ (room : ℕ) (slots values : List ℕ) (P : Plannable room slots values) where
   pub plan-keepable : (kept : List ℕ) → kept ≡ replicate (length slots) 0 → Keepable slots room kept

@@ -188,7 +188,7 @@ fn take(
 }
 
 // Writes the record of MF's run, and answers the most held just after any arrival: the greatest length of the queue.
-pub fn run(
+pub fn run_mf(
     slots: &[u32],
     values: &[u32],
     room: usize,

@@ -1,43 +1,33 @@
+-- Under a head with no mark nothing goes.
 use Rattle.runs.specs.Entry.{lists}
 use Rattle.runs.proofs.Flushing.{nothing-goes}
 use borrow.Author.Needs.{needs}
 use Rattle.runs.proofs.flush.flush.Statement.{statement}
 use Rattle.runs.proofs.flush.flush.Tie as tie
-use Rattle.runs.proofs.flush.flush.Reads as reads
-use Rattle.runs.proofs.flush.flush.Lts as lts
-use Rattle.runs.proofs.flush.sift.Reads as sift-reads
 
--- src/flush.rt:108:9
 returns : tie.Need-returns
 returns c =
     let a = c .before .before .before .before .before .before .before .args in
     nothing-goes (a .m) (a .marks .now) (a .slot) (a .w) (a .numbers .now) (a .values .now) (lists (a .fates .now) (a .whens .now) (a .bys .now)) (c .before .before .before .before .before .before .before .pre) (c .if1 .taken)
 
--- src/flush.rt:110:5
 sift-requires : tie.Need-sift-requires
 sift-requires c κs = search needs
 
--- src/flush.rt:93:1
 same-length : tie.Need-same-length
 same-length c = search needs
 
--- src/flush.rt:93:1
 same-length-2 : tie.Need-same-length-2
 same-length-2 c = search needs
 
--- src/flush.rt:93:1
 same-length-3 : tie.Need-same-length-3
 same-length-3 c = search needs
 
--- src/flush.rt:93:1
 same-length-4 : tie.Need-same-length-4
 same-length-4 c = search needs
 
--- src/flush.rt:93:1
 same-length-5 : tie.Need-same-length-5
 same-length-5 c = search needs
 
--- src/flush.rt:93:1
 returns-2 : tie.Need-returns-2
 returns-2 c = search needs
 

@@ -1,40 +1,31 @@
+-- A window that is not empty begins with its head.
 use mathlib.Core.Path.{sym, ap, _∙_}
 use Rattle.model.specs.Policies.MF.{headMark}
 use Rattle.runs.proofs.Windows.{window-cons, window-none}
 use borrow.Author.Needs.{needs}
 use Rattle.runs.proofs.flush.head_mark.Statement.{statement}
 use Rattle.runs.proofs.flush.head_mark.Tie as tie
-use Rattle.runs.proofs.flush.head_mark.Reads as reads
-use Rattle.runs.proofs.flush.head_mark.Lts as lts
-use Rattle.runs.proofs.mark.mark_of.Reads as mark-of-reads
 
--- src/flush.rt:38:38
 mul-t8 : tie.Need-mul-t8
 mul-t8 c = search needs
 
--- src/flush.rt:38:38
 shared-slice-read-t10 : tie.Need-shared-slice-read-t10
 shared-slice-read-t10 c = search needs
 
--- src/flush.rt:39:24
 mul-t12 : tie.Need-mul-t12
 mul-t12 c = search needs
 
--- src/flush.rt:39:24
 shared-slice-read-t14 : tie.Need-shared-slice-read-t14
 shared-slice-read-t14 c = search needs
 
--- src/flush.rt:35:9
 mark-of-requires : tie.Need-mark-of-requires
 mark-of-requires c κs = search needs
 
--- src/flush.rt:29:1
 returns : tie.Need-returns
 returns c =
     let a = c .before .before .before .before .before .before .before .before .args in
     c .mark-of .ensures ∙ sym (ap (headMark (a .marks .now)) (window-cons (a .w .head) (a .w .tail) (a .numbers .now) (a .values .now) (c .before .before .before .before .before .before .before .before .pre) (c .before .before .before .if1 .taken)))
 
--- src/flush.rt:29:1
 returns-2 : tie.Need-returns-2
 returns-2 c =
     let a = c .before .before .before .before .before .args in

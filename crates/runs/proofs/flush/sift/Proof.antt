@@ -1,3 +1,4 @@
+-- The invariant: what is held so far and what still stays is all that stays; what still goes completes what has gone.
 use Prim.Native.Nat.{ℕ, _-_}
 use mathlib.Core.Path.{_≡_, refl, sym, ap, _∙_}
 use mathlib.Core.Bool.{not, _&&_}
@@ -10,11 +11,6 @@ use Rattle.runs.proofs.Flushing.{Sifting, sifting-all, sifting-none, si
 use borrow.Author.Needs.{needs}
 use Rattle.runs.proofs.flush.sift.Statement.{statement}
 use Rattle.runs.proofs.flush.sift.Tie as tie
-use Rattle.runs.proofs.flush.sift.Reads as reads
-use Rattle.runs.proofs.flush.sift.Lts as lts
-use Rattle.runs.proofs.entry.enter.Reads as enter-reads
-use Rattle.runs.proofs.flush.goes_with.Reads as goes-with-reads
-use Rattle.runs.proofs.mark.mark_of.Reads as mark-of-reads
 
 abbrev Inv-loop : tie.InvT-loop
 Inv-loop numbers₀ values₀ marks fates₀ whens₀ bys₀ m slot head tail from₀ to₀ numbers values fates whens bys from to =
@@ -26,49 +22,38 @@ Inv-loop numbers₀ values₀ marks fates₀ whens₀ bys₀ m slot head tail fr
 abbrev μ-loop : tie.MeasureT-loop
 μ-loop numbers₀ values₀ marks fates₀ whens₀ bys₀ m slot head tail from₀ to₀ numbers values fates whens bys from to = tail - from
 
--- src/flush.rt:66:5
 loop-holds : tie.Need-loop-holds Inv-loop μ-loop
 loop-holds c =
     let a = c .before .before .before .before .before .before .args in
     (refl, refl, refl, sifting-all (a .m) (a .marks .now) (a .slot) (a .w .head) (a .w .tail) (a .numbers .now) (a .values .now) (lists (a .fates .now) (a .whens .now) (a .bys .now)) (c .before .before .before .before .before .before .pre))
 
--- src/flush.rt:68:34
 mul-t17 : tie.Need-mul-t17 Inv-loop μ-loop
 mul-t17 c = search needs
 
--- src/flush.rt:68:34
 slice-read-t19 : tie.Need-slice-read-t19 Inv-loop μ-loop
 slice-read-t19 c = search needs
 
--- src/flush.rt:69:20
 mul-t21 : tie.Need-mul-t21 Inv-loop μ-loop
 mul-t21 c = search needs
 
--- src/flush.rt:69:20
 slice-read-t23 : tie.Need-slice-read-t23 Inv-loop μ-loop
 slice-read-t23 c = search needs
 
--- src/flush.rt:71:9
 add-from : tie.Need-add-from Inv-loop μ-loop
 add-from c = search needs
 
--- src/flush.rt:72:13
 mark-of-requires : tie.Need-mark-of-requires Inv-loop μ-loop
 mark-of-requires c κs = search needs
 
--- src/flush.rt:73:12
 goes-with-requires : tie.Need-goes-with-requires Inv-loop μ-loop
 goes-with-requires c κs = search needs
 
--- src/flush.rt:74:13
 enter-requires : tie.Need-enter-requires Inv-loop μ-loop
 enter-requires c κs = search needs
 
--- src/flush.rt:66:5
 loop-less : tie.Need-loop-less Inv-loop μ-loop
 loop-less c = search needs
 
--- src/flush.rt:66:5
 loop-again : tie.Need-loop-again Inv-loop μ-loop
 loop-again c =
     let a = c .before .before .before .before .before .before .before .before .before .before .before .before .before .before .before .before .before .before .before .before .before .before .before .args in
@@ -83,31 +68,24 @@ loop-again c =
           (entered .ensures ∙ ap (λ (k : ℕ). enter (entry (record { 0 = getD (loop .numbers) (loop .from) 0 }) Flushed (a .slot) (record { 0 = k })) (lists (loop .fates) (loop .whens) (loop .bys))) (mark .ensures)),
     )
 
--- src/flush.rt:84:13
 mul-numbers : tie.Need-mul-numbers Inv-loop μ-loop
 mul-numbers c = search needs
 
--- src/flush.rt:84:13
 slice-write-numbers : tie.Need-slice-write-numbers Inv-loop μ-loop
 slice-write-numbers c = search needs
 
--- src/flush.rt:85:13
 mul-values : tie.Need-mul-values Inv-loop μ-loop
 mul-values c = search needs
 
--- src/flush.rt:85:13
 slice-write-values : tie.Need-slice-write-values Inv-loop μ-loop
 slice-write-values c = search needs
 
--- src/flush.rt:86:13
 add-to : tie.Need-add-to Inv-loop μ-loop
 add-to c = search needs
 
--- src/flush.rt:66:5
 loop-less-2 : tie.Need-loop-less-2 Inv-loop μ-loop
 loop-less-2 c = search needs
 
--- src/flush.rt:66:5
 loop-again-2 : tie.Need-loop-again-2 Inv-loop μ-loop
 loop-again-2 c =
     let a = c .before .before .before .before .before .before .before .before .before .before .before .before .before .args in
@@ -115,27 +93,21 @@ loop-again-2 c =
     let stays = sym (ap (λ (k : ℕ). not (eqb k 0) && leb k (a .m)) (c .before .before .mark-of .ensures)) ∙ sym (c .before .goes-with .ensures) ∙ c .if1 .left in
     (loop .inv .0, loop .inv .1, loop .inv .2, sifting-stays (a .m) (a .marks .now) (a .slot) (a .w .head) (a .w .tail) (a .numbers .now) (a .values .now) (lists (a .fates .now) (a .whens .now) (a .bys .now)) (loop .numbers) (loop .values) (loop .from) (loop .to) (lists (loop .fates) (loop .whens) (loop .bys)) (loop .inv .3) (c .before .before .before .before .before .loop-test .taken) stays)
 
--- src/flush.rt:48:1
 same-length : tie.Need-same-length Inv-loop μ-loop
 same-length c = search needs
 
--- src/flush.rt:48:1
 same-length-2 : tie.Need-same-length-2 Inv-loop μ-loop
 same-length-2 c = search needs
 
--- src/flush.rt:48:1
 same-length-3 : tie.Need-same-length-3 Inv-loop μ-loop
 same-length-3 c = search needs
 
--- src/flush.rt:48:1
 same-length-4 : tie.Need-same-length-4 Inv-loop μ-loop
 same-length-4 c = search needs
 
--- src/flush.rt:48:1
 same-length-5 : tie.Need-same-length-5 Inv-loop μ-loop
 same-length-5 c = search needs
 
--- src/flush.rt:48:1
 returns : tie.Need-returns Inv-loop μ-loop
 returns c =
     let a = c .before .before .before .before .before .before .before .before .args in

@@ -1,3 +1,4 @@
+-- Past the end of a list there is nothing, which reads as 0.
 use Prim.Native.Nat.{ℕ}
 use mathlib.Core.Path.{sym, ap}
 use native.Mathlib.Omega.{arith}
@@ -7,27 +8,19 @@ use Rattle.runs.proofs.Marking.{past-end}
 use borrow.Author.Needs.{needs}
 use Rattle.runs.proofs.mark.entry_of.Statement.{statement}
 use Rattle.runs.proofs.mark.entry_of.Tie as tie
-use Rattle.runs.proofs.mark.entry_of.Reads as reads
-use Rattle.runs.proofs.mark.entry_of.Lts as lts
-use Rattle.runs.proofs.entry.place_of.Reads as place-of-reads
 
--- src/mark.rt:23:9
 place-of-requires : tie.Need-place-of-requires
 place-of-requires c κs = search needs
 
--- src/mark.rt:24:29
 mul-result : tie.Need-mul-result
 mul-result c = search needs
 
--- src/mark.rt:24:29
 shared-slice-read-result : tie.Need-shared-slice-read-result
 shared-slice-read-result c = search needs
 
--- src/mark.rt:20:1
 returns : tie.Need-returns
 returns c = ap (λ (place : ℕ). getD (c .before .before .before .before .args .list .now) place 0) (c .before .before .place-of .ensures)
 
--- src/mark.rt:20:1
 returns-2 : tie.Need-returns-2
 returns-2 c =
     let a = c .before .before .before .args in

@@ -1,3 +1,4 @@
+-- The value is tested first, then the packet's slot.
 use Prim.Native.Nat.{ℕ}
 use mathlib.Core.Path.{ap}
 use lib.Dec.{eqb}
@@ -5,19 +6,13 @@ use Rattle.runs.proofs.Marking.{both-fail, both-by-second}
 use borrow.Author.Needs.{needs}
 use Rattle.runs.proofs.mark.gives_marks.Statement.{statement}
 use Rattle.runs.proofs.mark.gives_marks.Tie as tie
-use Rattle.runs.proofs.mark.gives_marks.Reads as reads
-use Rattle.runs.proofs.mark.gives_marks.Lts as lts
-use Rattle.runs.proofs.mark.entry_of.Reads as entry-of-reads
 
--- src/mark.rt:48:9
 returns : tie.Need-returns
 returns c = both-fail _ _ _ (c .if1 .taken)
 
--- src/mark.rt:50:5
 entry-of-requires : tie.Need-entry-of-requires
 entry-of-requires c κs = search needs
 
--- src/mark.rt:44:1
 returns-2 : tie.Need-returns-2
 returns-2 c = both-by-second _ _ _ _ (c .before .before .if1 .left) (ap (λ (s : ℕ). eqb s (c .before .before .before .before .before .args .slot .0)) (c .before .entry-of .ensures))
 

@@ -1,3 +1,4 @@
+-- The invariant: going on from place i with the marks as they are gives what going through all places gives with the marks as they were.
 use Prim.Native.Nat.{_+_, _-_, _≤_}
 use mathlib.Core.Path.{ap, _∙_}
 use mathlib.Core.List.{List, []}
@@ -12,10 +13,6 @@ use Rattle.runs.proofs.Marking.{window-take, Passing, passing-all, pass
 use borrow.Author.Needs.{needs}
 use Rattle.runs.proofs.mark.mark.Statement.{statement}
 use Rattle.runs.proofs.mark.mark.Tie as tie
-use Rattle.runs.proofs.mark.mark.Reads as reads
-use Rattle.runs.proofs.mark.mark.Lts as lts
-use Rattle.runs.proofs.mark.mark_by.Reads as mark-by-reads
-use Rattle.runs.proofs.mark.positions.Reads as positions-reads
 
 abbrev Inv-loop : tie.InvT-loop
 Inv-loop numbers values slots marks₀ room lo hi r slot head n i₀ marks i =
@@ -24,29 +21,23 @@ Inv-loop numbers values slots marks₀ room lo hi r slot head n i₀ marks i =
 abbrev μ-loop : tie.MeasureT-loop
 μ-loop numbers values slots marks₀ room lo hi r slot head n i₀ marks i = n - i
 
--- src/mark.rt:137:9
 positions-requires : tie.Need-positions-requires Inv-loop μ-loop
 positions-requires c κs = search needs
 
--- src/mark.rt:139:5
 loop-holds : tie.Need-loop-holds Inv-loop μ-loop
 loop-holds c =
     let a = c .before .before .before .before .before .args in
     (omega arith, passing-all (a .numbers .now) (a .values .now) (a .slots .now) (a .w .head) (c .positions .result) (markingOf (a .lo) (a .hi) (a .r)) (a .slot) (a .marks .now))
 
--- src/mark.rt:140:9
 mark-by-requires : tie.Need-mark-by-requires Inv-loop μ-loop
 mark-by-requires c κs = search needs
 
--- src/mark.rt:152:9
 add-i : tie.Need-add-i Inv-loop μ-loop
 add-i c = search needs
 
--- src/mark.rt:139:5
 loop-less : tie.Need-loop-less Inv-loop μ-loop
 loop-less c = search needs
 
--- src/mark.rt:139:5
 loop-again : tie.Need-loop-again Inv-loop μ-loop
 loop-again c =
     let a = c .before .before .before .before .before .before .before .before .before .before .before .args in
@@ -58,11 +49,9 @@ loop-again c =
           W (loop .i) (loop .marks) (loop .inv .1) (c .before .before .before .before .loop-test .taken) (c .before .before .mark-by .last .1 .1 .1 .0) (c .before .before .mark-by .ensures) (c .before .before .mark-by .kept .1 .1 .1 .0),
     )
 
--- src/mark.rt:120:1
 same-length : tie.Need-same-length Inv-loop μ-loop
 same-length c = search needs
 
--- src/mark.rt:120:1
 returns : tie.Need-returns Inv-loop μ-loop
 returns c =
     let a = c .before .before .before .before .before .before .before .args in

@@ -1,50 +1,37 @@
+-- The test decides which of two lists of marks it is.
 use mathlib.Core.Path.{sym, _∙_}
 use Rattle.runs.proofs.Marking.{by-first, by-second}
 use borrow.Author.Needs.{needs}
 use Rattle.runs.proofs.mark.mark_by.Statement.{statement}
 use Rattle.runs.proofs.mark.mark_by.Tie as tie
-use Rattle.runs.proofs.mark.mark_by.Reads as reads
-use Rattle.runs.proofs.mark.mark_by.Lts as lts
-use Rattle.runs.proofs.mark.gives_marks.Reads as gives-marks-reads
-use Rattle.runs.proofs.mark.mark_down.Reads as mark-down-reads
 
--- src/mark.rt:99:13
 add-k : tie.Need-add-k
 add-k c = search needs
 
--- src/mark.rt:101:30
 mul-t13 : tie.Need-mul-t13
 mul-t13 c = search needs
 
--- src/mark.rt:101:30
 shared-slice-read-t15 : tie.Need-shared-slice-read-t15
 shared-slice-read-t15 c = search needs
 
--- src/mark.rt:102:16
 mul-t17 : tie.Need-mul-t17
 mul-t17 c = search needs
 
--- src/mark.rt:102:16
 shared-slice-read-t19 : tie.Need-shared-slice-read-t19
 shared-slice-read-t19 c = search needs
 
--- src/mark.rt:104:8
 gives-marks-requires : tie.Need-gives-marks-requires
 gives-marks-requires c κs = search needs
 
--- src/mark.rt:105:9
 mark-down-requires : tie.Need-mark-down-requires
 mark-down-requires c κs = search needs
 
--- src/mark.rt:84:1
 same-length : tie.Need-same-length
 same-length c = search needs
 
--- src/mark.rt:84:1
 returns : tie.Need-returns
 returns c = by-first _ _ _ _ (sym (c .before .before .before .before .before .gives-marks .ensures) ∙ c .before .before .before .before .if1 .taken) (c .before .before .mark-down .ensures)
 
--- src/mark.rt:84:1
 returns-2 : tie.Need-returns-2
 returns-2 c = by-second _ _ _ (sym (c .before .gives-marks .ensures) ∙ c .if1 .left)
 

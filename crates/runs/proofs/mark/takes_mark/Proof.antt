@@ -1,3 +1,4 @@
+-- The value is tested first, then that the packet has no mark.
 use Rattle.model.specs.Policies.MF.{markOf}
 use Prim.Native.Nat.{ℕ}
 use mathlib.Core.Path.{ap, _∙_}
@@ -6,19 +7,13 @@ use Rattle.runs.proofs.Marking.{both-fail, both-by-second, twice-not}
 use borrow.Author.Needs.{needs}
 use Rattle.runs.proofs.mark.takes_mark.Statement.{statement}
 use Rattle.runs.proofs.mark.takes_mark.Tie as tie
-use Rattle.runs.proofs.mark.takes_mark.Reads as reads
-use Rattle.runs.proofs.mark.takes_mark.Lts as lts
-use Rattle.runs.proofs.mark.mark_of.Reads as mark-of-reads
 
--- src/mark.rt:38:9
 returns : tie.Need-returns
 returns c = both-fail _ _ _ (c .if1 .taken)
 
--- src/mark.rt:40:5
 mark-of-requires : tie.Need-mark-of-requires
 mark-of-requires c κs = search needs
 
--- src/mark.rt:34:1
 returns-2 : tie.Need-returns-2
 returns-2 c = both-by-second _ _ _ _ (c .before .if1 .left) (ap (λ (m : ℕ). eqb m 0) (c .mark-of .ensures) ∙ twice-not (eqb (markOf (c .before .before .before .before .args .marks .now) (c .before .before .before .before .args .p) .0) 0))
 

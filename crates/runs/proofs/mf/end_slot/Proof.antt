@@ -1,3 +1,4 @@
+-- The marks, the flush and the sending, one after the other, are the policy's end of a slot.
 use Rattle.trace.specs.Checked.{markingOf}
 use Rattle.runs.specs.Entry.{lists}
 use Rattle.runs.specs.Window.{windowOf}
@@ -5,54 +6,37 @@ use Rattle.runs.proofs.Finishing.{finished}
 use borrow.Author.Needs.{needs}
 use Rattle.runs.proofs.mf.end_slot.Statement.{statement}
 use Rattle.runs.proofs.mf.end_slot.Tie as tie
-use Rattle.runs.proofs.mf.end_slot.Reads as reads
-use Rattle.runs.proofs.mf.end_slot.Lts as lts
-use Rattle.runs.proofs.flush.flush.Reads as flush-reads
-use Rattle.runs.proofs.flush.head_mark.Reads as head-mark-reads
-use Rattle.runs.proofs.mark.mark.Reads as mark-reads
-use Rattle.runs.proofs.mf.send.Reads as send-reads
 
--- src/mf.rt:75:5
 mark-requires : tie.Need-mark-requires
 mark-requires c κs = search needs
 
--- src/mf.rt:76:9
 head-mark-requires : tie.Need-head-mark-requires
 head-mark-requires c κs = search needs
 
--- src/mf.rt:77:9
 flush-requires : tie.Need-flush-requires
 flush-requires c κs = search needs
 
--- src/mf.rt:78:5
 send-requires : tie.Need-send-requires
 send-requires c κs = search needs
 
--- src/mf.rt:56:1
 same-length : tie.Need-same-length
 same-length c = search needs
 
--- src/mf.rt:56:1
 same-length-2 : tie.Need-same-length-2
 same-length-2 c = search needs
 
--- src/mf.rt:56:1
 same-length-3 : tie.Need-same-length-3
 same-length-3 c = c .before .before .before .before .before .before .before .before .before .before .before .before .before .before .before .before .before .before .before .before .before .before .before .before .before .before .before .before .before .before .before .before .before .before .before .mark .kept .1 .1 .1 .0
 
--- src/mf.rt:56:1
 same-length-4 : tie.Need-same-length-4
 same-length-4 c = search needs
 
--- src/mf.rt:56:1
 same-length-5 : tie.Need-same-length-5
 same-length-5 c = search needs
 
--- src/mf.rt:56:1
 same-length-6 : tie.Need-same-length-6
 same-length-6 c = search needs
 
--- src/mf.rt:56:1
 returns : tie.Need-returns
 returns c =
     let a = c .before .before .before .before .before .before .before .before .before .before .before .before .before .before .before .before .before .before .before .before .before .before .before .before .before .before .before .before .before .before .before .before .before .before .before .before .before .before .before .before .before .before .before .before .before .before .args in

@@ -1,3 +1,4 @@
+-- The invariant: the ends still to come complete what all of them do. They are over where no slot is left, or nothing is held.
 use Prim.Native.Nat.{_-_}
 use mathlib.Core.Path.{_≡_, refl, _∙_}
 use lib.ListN.{length}
@@ -13,9 +14,6 @@ use Rattle.runs.proofs.Finishing.{Left, left-turn, left-past, left-idle
 use borrow.Author.Needs.{needs}
 use Rattle.runs.proofs.mf.end_slots.Statement.{statement}
 use Rattle.runs.proofs.mf.end_slots.Tie as tie
-use Rattle.runs.proofs.mf.end_slots.Reads as reads
-use Rattle.runs.proofs.mf.end_slots.Lts as lts
-use Rattle.runs.proofs.mf.end_slot.Reads as end-slot-reads
 
 abbrev Inv-loop : tie.InvT-loop
 Inv-loop numbers₀ values₀ slots marks₀ fates₀ whens₀ bys₀ room lo hi r until head₀ tail₀ slot₀ numbers values marks fates whens bys head tail slot =
@@ -31,25 +29,20 @@ Inv-loop numbers₀ values₀ slots marks₀ fates₀ whens₀ bys₀ room lo hi
 abbrev μ-loop : tie.MeasureT-loop
 μ-loop numbers₀ values₀ slots marks₀ fates₀ whens₀ bys₀ room lo hi r until head₀ tail₀ slot₀ numbers values marks fates whens bys head tail slot = until .0 - slot
 
--- src/mf.rt:105:5
 loop-holds : tie.Need-loop-holds Inv-loop μ-loop
 loop-holds c =
     let a = c .before .before .before .before .before .before .before .args in
     (refl, refl, refl, refl, refl, refl, record { within = c .before .before .before .before .before .before .before .pre .0; ends = ending-all (mfPolicy (a .room) (markingOf (a .lo) (a .hi) (a .r)) (a .slots .now)) (a .until .0) (a .from .0) (beside (windowOf (a .w) (a .numbers .now) (a .values .now)) (a .marks .now)) (lists (a .fates .now) (a .whens .now) (a .bys .now)) })
 
--- src/mf.rt:106:13
 end-slot-requires : tie.Need-end-slot-requires Inv-loop μ-loop
 end-slot-requires c κs = search needs
 
--- src/mf.rt:123:9
 add-slot : tie.Need-add-slot Inv-loop μ-loop
 add-slot c = search needs
 
--- src/mf.rt:105:5
 loop-less : tie.Need-loop-less Inv-loop μ-loop
 loop-less c = search needs
 
--- src/mf.rt:105:5
 loop-again : tie.Need-loop-again Inv-loop μ-loop
 loop-again c =
     let a = c .before .before .before .before .before .before .before .before .before .before .before .before .before .before .before .before .before .before .before .before .before .before .before .before .before .before .before .before .before .before .args in
@@ -66,31 +59,24 @@ loop-again c =
           (end .result) (end .last .0) (end .last .1 .0) (end .last .1 .1 .1 .0) (lists (end .last .1 .1 .1 .1 .0) (end .last .1 .1 .1 .1 .1 .0) (end .last .1 .1 .1 .1 .1 .1 .0)) (end .ensures),
     )
 
--- src/mf.rt:82:1
 same-length : tie.Need-same-length Inv-loop μ-loop
 same-length c = search needs
 
--- src/mf.rt:82:1
 same-length-2 : tie.Need-same-length-2 Inv-loop μ-loop
 same-length-2 c = search needs
 
--- src/mf.rt:82:1
 same-length-3 : tie.Need-same-length-3 Inv-loop μ-loop
 same-length-3 c = search needs
 
--- src/mf.rt:82:1
 same-length-4 : tie.Need-same-length-4 Inv-loop μ-loop
 same-length-4 c = search needs
 
--- src/mf.rt:82:1
 same-length-5 : tie.Need-same-length-5 Inv-loop μ-loop
 same-length-5 c = search needs
 
--- src/mf.rt:82:1
 same-length-6 : tie.Need-same-length-6 Inv-loop μ-loop
 same-length-6 c = search needs
 
--- src/mf.rt:82:1
 returns : tie.Need-returns Inv-loop μ-loop
 returns c =
     let a = c .before .before .before .before .before .before .before .before .before .before .before .args in
@@ -98,31 +84,24 @@ returns c =
     left-idle (a .room) (markingOf (a .lo) (a .hi) (a .r)) (a .slots .now) (a .until .0) (a .from .0) (beside (windowOf (a .w) (a .numbers .now) (a .values .now)) (a .marks .now)) (lists (a .fates .now) (a .whens .now) (a .bys .now))
     (loop .slot) (loop .head) (loop .tail) (loop .numbers) (loop .values) (loop .marks) (lists (loop .fates) (loop .whens) (loop .bys)) (loop .inv .6) (ltb-false (loop .head) (loop .tail) (c .if2 .left))
 
--- src/mf.rt:82:1
 same-length-7 : tie.Need-same-length-7 Inv-loop μ-loop
 same-length-7 c = search needs
 
--- src/mf.rt:82:1
 same-length-8 : tie.Need-same-length-8 Inv-loop μ-loop
 same-length-8 c = search needs
 
--- src/mf.rt:82:1
 same-length-9 : tie.Need-same-length-9 Inv-loop μ-loop
 same-length-9 c = search needs
 
--- src/mf.rt:82:1
 same-length-10 : tie.Need-same-length-10 Inv-loop μ-loop
 same-length-10 c = search needs
 
--- src/mf.rt:82:1
 same-length-11 : tie.Need-same-length-11 Inv-loop μ-loop
 same-length-11 c = search needs
 
--- src/mf.rt:82:1
 same-length-12 : tie.Need-same-length-12 Inv-loop μ-loop
 same-length-12 c = search needs
 
--- src/mf.rt:82:1
 returns-2 : tie.Need-returns-2 Inv-loop μ-loop
 returns-2 c =
     let a = c .before .before .before .before .before .before .before .before .before .before .args in

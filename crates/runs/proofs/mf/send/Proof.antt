@@ -1,3 +1,4 @@
+-- The oldest packet is what the window begins with; on idle the window is empty.
 use mathlib.Core.Path.{sym, _∙_}
 use mathlib.Core.Logic.{⊎-elim}
 use native.Mathlib.Omega.{arith}
@@ -6,20 +7,13 @@ use Rattle.runs.proofs.Finishing.{sent-oldest, sent-none}
 use borrow.Author.Needs.{needs}
 use Rattle.runs.proofs.mf.send.Statement.{statement}
 use Rattle.runs.proofs.mf.send.Tie as tie
-use Rattle.runs.proofs.mf.send.Reads as reads
-use Rattle.runs.proofs.mf.send.Lts as lts
-use Rattle.runs.proofs.entry.enter.Reads as enter-reads
-use Rattle.runs.proofs.window.oldest.Reads as oldest-reads
 
--- src/mf.rt:37:31
 oldest-requires : tie.Need-oldest-requires
 oldest-requires c κs = search needs
 
--- src/mf.rt:37:26
 enum-known-p : tie.Need-enum-known-p
 enum-known-p c = search needs
 
--- src/mf.rt:38:9
 returns : tie.Need-returns
 returns c =
     let a = c .before .before .before .before .before .before .before .args in
@@ -27,27 +21,21 @@ returns c =
     sent-none (a .slot) (a .w .head) (a .w .tail) (a .numbers .now) (a .values .now) (c .before .before .before .before .before .before .before .pre) (lists (a .fates .now) (a .whens .now) (a .bys .now))
     (λ p e. ⊎-elim (λ t. omega arith) (λ t. omega arith) (rw (c .before .oldest .ensures ∙ e) at k))
 
--- src/mf.rt:40:5
 enter-requires : tie.Need-enter-requires
 enter-requires c κs = search needs
 
--- src/mf.rt:50:15
 add-t21 : tie.Need-add-t21
 add-t21 c = search needs
 
--- src/mf.rt:23:1
 same-length : tie.Need-same-length
 same-length c = search needs
 
--- src/mf.rt:23:1
 same-length-2 : tie.Need-same-length-2
 same-length-2 c = search needs
 
--- src/mf.rt:23:1
 same-length-3 : tie.Need-same-length-3
 same-length-3 c = search needs
 
--- src/mf.rt:23:1
 returns-2 : tie.Need-returns-2
 returns-2 c =
     let a = c .before .before .before .before .before .before .before .before .before .before .before .before .before .before .before .before .before .before .before .args in

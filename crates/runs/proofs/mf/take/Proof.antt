@@ -1,3 +1,4 @@
+-- The ends of slots make no queue longer, so there is a place for the arrival.
 use Rattle.trace.specs.Checked.{markingOf}
 use Rattle.runs.specs.Entry.{lists}
 use Rattle.runs.specs.Window.{windowOf}
@@ -6,16 +7,10 @@ use Rattle.runs.proofs.RunningMF.{ended-free, turned}
 use borrow.Author.Needs.{needs}
 use Rattle.runs.proofs.mf.take.Statement.{statement}
 use Rattle.runs.proofs.mf.take.Tie as tie
-use Rattle.runs.proofs.mf.take.Reads as reads
-use Rattle.runs.proofs.mf.take.Lts as lts
-use Rattle.runs.proofs.mf.end_slots.Reads as end-slots-reads
-use Rattle.runs.proofs.step.arrive.Reads as arrive-reads
 
--- src/mf.rt:160:9
 end-slots-requires : tie.Need-end-slots-requires
 end-slots-requires c κs = search needs
 
--- src/mf.rt:176:5
 arrive-requires : tie.Need-arrive-requires
 arrive-requires c κs =
     let start = c .before .before .before .before .before .before .before .before .before .before .before .before .before .before .before .before .before .before .before .before .before .before .before .before .before .before .before .before .before .before .before in
@@ -27,31 +22,24 @@ arrive-requires c κs =
           (start .pre .0) (start .pre .1 .1) (ended .ensures) (ended .kept .1 .0),
     )
 
--- src/mf.rt:138:1
 same-length : tie.Need-same-length
 same-length c = search needs
 
--- src/mf.rt:138:1
 same-length-2 : tie.Need-same-length-2
 same-length-2 c = search needs
 
--- src/mf.rt:138:1
 same-length-3 : tie.Need-same-length-3
 same-length-3 c = search needs
 
--- src/mf.rt:138:1
 same-length-4 : tie.Need-same-length-4
 same-length-4 c = search needs
 
--- src/mf.rt:138:1
 same-length-5 : tie.Need-same-length-5
 same-length-5 c = search needs
 
--- src/mf.rt:138:1
 same-length-6 : tie.Need-same-length-6
 same-length-6 c = search needs
 
--- src/mf.rt:138:1
 returns : tie.Need-returns
 returns c =
     let a = c .before .before .before .before .before .before .before .before .before .before .before .before .before .before .before .before .before .before .before .before .before .before .before .before .before .before .before .before .before .before .before .before .before .before .before .before .before .before .before .before .before .before .args in

@@ -1,3 +1,4 @@
+-- The invariant: what is left of the course completes its entries and its greatest length.
 use Prim.Native.Nat.{max, _+_, _-_}
 use mathlib.Core.Path.{_≡_, refl, _∙_}
 use mathlib.Core.Logic.{⊎-elim}
@@ -7,12 +8,8 @@ use Rattle.trace.specs.Checked.{markingOf}
 use Rattle.runs.specs.Entry.{lists}
 use Rattle.runs.proofs.RunningMF.{Going, going-start, going-turn, going-end}
 use borrow.Author.Needs.{needs}
-use Rattle.runs.proofs.mf.run.Statement.{statement}
-use Rattle.runs.proofs.mf.run.Tie as tie
-use Rattle.runs.proofs.mf.run.Reads as reads
-use Rattle.runs.proofs.mf.run.Lts as lts
-use Rattle.runs.proofs.mf.end_slots.Reads as end-slots-reads
-use Rattle.runs.proofs.mf.take.Reads as take-reads
+use Rattle.runs.proofs.mf.run_mf.Statement.{statement}
+use Rattle.runs.proofs.mf.run_mf.Tie as tie
 
 abbrev Inv-loop : tie.InvT-loop
 Inv-loop slots values room lo hi r marks₀ fates₀ whens₀ bys₀ numbers₀ held₀ head₀ tail₀ last₀ most₀ i₀ marks fates whens bys numbers held head tail last most i =
@@ -25,66 +22,51 @@ Inv-loop slots values room lo hi r marks₀ fates₀ whens₀ bys₀ numbers₀ 
 abbrev μ-loop : tie.MeasureT-loop
 μ-loop slots values room lo hi r marks₀ fates₀ whens₀ bys₀ numbers₀ held₀ head₀ tail₀ last₀ most₀ i₀ marks fates whens bys numbers held head tail last most i = length slots - i
 
--- src/mf.rt:215:5
 loop-holds : tie.Need-loop-holds Inv-loop μ-loop
 loop-holds c =
     let start = c .before .before .before .before .before .before in
     let a = start .args in
     (refl, refl, refl, refl, going-start (a .room) (markingOf (a .lo) (a .hi) (a .r)) (a .slots .now) (a .values .now) (lists (a .fates .now) (a .whens .now) (a .bys .now)) _ _ (a .marks .now) (search needs) (search needs) (start .pre .1 .1))
 
--- src/mf.rt:216:20
 mul-slot : tie.Need-mul-slot Inv-loop μ-loop
 mul-slot c = search needs
 
--- src/mf.rt:216:20
 shared-slice-read-slot : tie.Need-shared-slice-read-slot Inv-loop μ-loop
 shared-slice-read-slot c = search needs
 
--- src/mf.rt:218:35
 add-t21 : tie.Need-add-t21 Inv-loop μ-loop
 add-t21 c = search needs
 
--- src/mf.rt:218:34
 cast-t24 : tie.Need-cast-t24 Inv-loop μ-loop
 cast-t24 c = search needs
 
--- src/mf.rt:219:20
 mul-t26 : tie.Need-mul-t26 Inv-loop μ-loop
 mul-t26 c = search needs
 
--- src/mf.rt:219:20
 shared-slice-read-t28 : tie.Need-shared-slice-read-t28 Inv-loop μ-loop
 shared-slice-read-t28 c = search needs
 
--- src/mf.rt:222:13
 slice-aggregate-take : tie.Need-slice-aggregate-take Inv-loop μ-loop
 slice-aggregate-take c = search needs
 
--- src/mf.rt:223:13
 slice-aggregate-take-2 : tie.Need-slice-aggregate-take-2 Inv-loop μ-loop
 slice-aggregate-take-2 c = search needs
 
--- src/mf.rt:221:13
 take-requires : tie.Need-take-requires Inv-loop μ-loop
 take-requires c κs = search needs
 
--- src/mf.rt:240:19
 sub-if1 : tie.Need-sub-if1 Inv-loop μ-loop
 sub-if1 c = search needs
 
--- src/mf.rt:241:20
 sub-most : tie.Need-sub-most Inv-loop μ-loop
 sub-most c = search needs
 
--- src/mf.rt:244:9
 add-i : tie.Need-add-i Inv-loop μ-loop
 add-i c = search needs
 
--- src/mf.rt:215:5
 loop-less : tie.Need-loop-less Inv-loop μ-loop
 loop-less c = search needs
 
--- src/mf.rt:215:5
 loop-again : tie.Need-loop-again Inv-loop μ-loop
 loop-again c =
     let start = c .before .before .before .before .before .before .before .before .before .before .before .before .before .before .before .before .before .before .before .before .before .before .before .before .before .before .before .before in
@@ -100,51 +82,39 @@ loop-again c =
           (taken .result) (taken .last .0) (taken .last .1 .0) (taken .last .1 .1 .1 .0) (lists (taken .last .1 .1 .1 .1 .0) (taken .last .1 .1 .1 .1 .1 .0) (taken .last .1 .1 .1 .1 .1 .1 .0)) (c .if1 .most) (taken .ensures) (taken .kept .1 .0) most,
     )
 
--- src/mf.rt:247:9
 slice-aggregate-end-slots : tie.Need-slice-aggregate-end-slots Inv-loop μ-loop
 slice-aggregate-end-slots c = search needs
 
--- src/mf.rt:248:9
 slice-aggregate-end-slots-2 : tie.Need-slice-aggregate-end-slots-2 Inv-loop μ-loop
 slice-aggregate-end-slots-2 c = search needs
 
--- src/mf.rt:260:22
 sub-t59 : tie.Need-sub-t59 Inv-loop μ-loop
 sub-t59 c = search needs
 
--- src/mf.rt:260:21
 cast-t60 : tie.Need-cast-t60 Inv-loop μ-loop
 cast-t60 c = search needs
 
--- src/mf.rt:260:14
 add-t61 : tie.Need-add-t61 Inv-loop μ-loop
 add-t61 c = search needs
 
--- src/mf.rt:246:5
 end-slots-requires : tie.Need-end-slots-requires Inv-loop μ-loop
 end-slots-requires c κs = search needs
 
--- src/mf.rt:262:5
 cast-result : tie.Need-cast-result Inv-loop μ-loop
 cast-result c = search needs
 
--- src/mf.rt:191:1
 same-length : tie.Need-same-length Inv-loop μ-loop
 same-length c = search needs
 
--- src/mf.rt:191:1
 same-length-2 : tie.Need-same-length-2 Inv-loop μ-loop
 same-length-2 c = search needs
 
--- src/mf.rt:191:1
 same-length-3 : tie.Need-same-length-3 Inv-loop μ-loop
 same-length-3 c = search needs
 
--- src/mf.rt:191:1
 same-length-4 : tie.Need-same-length-4 Inv-loop μ-loop
 same-length-4 c = search needs
 
--- src/mf.rt:191:1
 returns : tie.Need-returns Inv-loop μ-loop
 returns c =
     let start = c .before .before .before .before .before .before .before .before .before .before .before .before .before .before .before .before .before .before .before .before .before .before .before .before .before in
@@ -154,8 +124,8 @@ returns c =
     going-end (a .room) (markingOf (a .lo) (a .hi) (a .r)) (a .slots .now) (a .values .now) (lists (a .fates .now) (a .whens .now) (a .bys .now)) (start .pre .0) (loop .numbers) (loop .held) (loop .marks) (loop .head) (loop .tail) (loop .last) (loop .most) (loop .i) (lists (loop .fates) (loop .whens) (loop .bys)) (loop .inv .4) (c .before .before .before .before .before .before .before .before .before .before .before .before .before .before .before .before .before .loop-test .left)
     (ended .result) (ended .last .0) (ended .last .1 .0) (ended .last .1 .1 .1 .0) (lists (ended .last .1 .1 .1 .1 .0) (ended .last .1 .1 .1 .1 .1 .0) (ended .last .1 .1 .1 .1 .1 .1 .0)) (record { 0 = loop .last + (loop .tail - loop .head) }) refl (ended .ensures)
 
-pub run-spec : {M : Type 1} → statement M
-run-spec =
+pub run-mf-spec : {M : Type 1} → statement M
+run-mf-spec =
     tie.close
     (tie.spec
     Inv-loop
