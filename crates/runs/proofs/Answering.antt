@@ -1,22 +1,20 @@
 -- A call's answer: the totals counted from the fates are the totals of the record's rows, and a refusal or a run is what model's call says of the verdict.
-use Prim.Native.Nat.{ℕ, zero, suc, _+_, _≤_, _<_}
+use Prim.Native.Nat.{ℕ, suc, _+_, _≤_}
 use mathlib.Core.Path.{_≡_, refl, sym, ap, ap₂, subst, _∙_}
-use mathlib.Core.Bool.{Bool, true, false, cond}
+use mathlib.Core.Bool.{Bool, true, false, cond, _||_}
 use mathlib.Core.List.{List, [], _∷_}
 use native.Mathlib.Omega.{arith}
 use lib.ListN.{length, getD}
 use lib.Dec.{eqb}
-use Rattle.model.specs.declared.Packet.{Packet}
 use Rattle.model.specs.declared.Beta.{Beta}
 use Rattle.model.specs.declared.Fate.{Fate}
 use Rattle.model.specs.declared.Fate.the-variants.{Sent, Rejected, PushedOut, Preempted, Flushed}
-use Rattle.model.specs.declared.Tally.{Tally}
 use Rattle.model.specs.declared.Totals.{Totals}
 use Rattle.model.specs.declared.Cause.{Cause}
 use Rattle.model.specs.declared.Cause.the-variants as causes
 use Rattle.model.specs.declared.Refusal.{Refusal}
 use Rattle.model.specs.declared.RunAnswer.the-variants.{Ran, Refused}
-use Rattle.model.specs.Limits.{recordLimits, portLimits}
+use Rattle.model.specs.Limits.{recordLimits}
 use Rattle.model.specs.Packets.{arrivalsFrom, arrivals}
 use Rattle.model.specs.Record.{Entry, Lists, entered, recordOf, rowsOf, rows, fateNumber}
 use Rattle.model.specs.Rules.{Verdict, clear, hasFate, countOf}
@@ -24,14 +22,16 @@ use Rattle.model.specs.Totals.{valueOf, tally, totalsOf}
 use Rattle.model.specs.Course.{Policy, byRule, course, first}
 use Rattle.model.specs.Policies.Greedy.{greedyRule}
 use Rattle.model.specs.Policies.PG.{pgRule}
-use Rattle.model.specs.Refusals.{valueOk, traceRefusal, plainRefusal, pgRefusal, betaRefusal}
+use Rattle.model.specs.Policies.MF.{Marking, mfPolicy, unmarked}
+use Rattle.model.specs.Refusals.{valueOk, plainRefusal, pgRefusal, betaRefusal, loOrHi, mfRefusal, markingRefusal}
 use Rattle.model.specs.Answers.{causeNumber}
-use Rattle.model.specs.Calls.{Outcome, replyTo, ran, runUnless}
-use Rattle.laws.proofs.Entered.{Sized, recorded}
-use Rattle.laws.proofs.WellFormed.{WellFormed, wellFormed-greedy, wellFormed-pg, wellFormed-plan}
+use Rattle.model.specs.Calls.{Outcome, ran, runUnless}
+use Rattle.laws.proofs.WellFormed.{WellFormed, wellFormed-greedy, wellFormed-pg, wellFormed-plan, wellFormed-mf}
 use Rattle.laws.proofs.Lawful.{Lawful, lawful-greedy, lawful-pg, lawful-plan}
+use Rattle.laws.proofs.LawfulMF.{lawful-mf}
 use Rattle.laws.proofs.Held.{mostQueue}
 use Rattle.trace.specs.Tested.{Tested}
+use Rattle.trace.proofs.Laws.{left-part}
 use Rattle.trace.proofs.Accepted.{accepted, within-to}
 use Rattle.runs.specs.Totals.{countIn, sumIn, Countable, tallyBy, totalsBy}
 use Rattle.runs.specs.Plan.{planRule, Plannable}
@@ -66,9 +66,9 @@ value-rows f n (s ∷ slots) (v ∷ values) (g ∷ fates) (w ∷ whens) [] same 
 value-rows f n (s ∷ slots) (v ∷ values) (g ∷ fates) (w ∷ whens) (b ∷ bys) same long =
     ap (λ (k : ℕ). cond (eqb g (fateNumber f)) v 0 + k) (value-rows f (suc n) slots values fates whens bys (omega arith) (omega arith))
 
-module _ (P : Policy (List Packet)) (slots values : List ℕ) (lists : Lists) (R : Ready P slots values lists) where
+module _ {S : Type 0} (P : Policy S) (s : S) (slots values : List ℕ) (lists : Lists) (R : Ready P s slots values lists) where
   abbrev entries : List Entry
-  entries = course P first [] (arrivals slots values)
+  entries = course P first s (arrivals slots values)
 
   abbrev written : Lists
   written = recordOf (length slots) entries
@@ -95,7 +95,7 @@ module _ (P : Policy (List Packet)) (slots values : List ℕ) (lists : Lists) (R
       (count-rows f 1 slots values (written .fates) (written .whens) (written .bys) (R .same) long)
       (value-rows f 1 slots values (written .fates) (written .whens) (written .bys) (R .same) long)
 
-  totals-rows : totalsOf (rows (arrivals slots values) written) ≡ totalsBy values (written .fates) (mostQueue P first [] (arrivals slots values))
+  totals-rows : totalsOf (rows (arrivals slots values) written) ≡ totalsBy values (written .fates) (mostQueue P first s (arrivals slots values))
   totals-rows =
       let count = R .formed .arrived-count ∙ sym (R .formed .sized .fates) in
       let value = R .formed .arrived-value in
@@ -116,7 +116,7 @@ module _ (P : Policy (List Packet)) (slots values : List ℕ) (lists : Lists) (R
         «most_held» = most k;
       }
 
-  pub answered : (after : Lists) → after ≡ written → (most : ℕ) → most ≡ mostQueue P first [] (arrivals slots values)
+  pub answered : (after : Lists) → after ≡ written → (most : ℕ) → most ≡ mostQueue P first s (arrivals slots values)
       → (t : Totals) → t ≡ totalsBy values (after .fates) most → outcome (Ran t) after ≡ ran slots values entries
   answered after e most m t k =
       let same : t ≡ totalsOf (rows (arrivals slots values) written) =
@@ -144,14 +144,15 @@ pub not-refused : (v : Verdict) (lists : Lists) (done : Outcome) → clear ≡ v
 unfolding runUnless
 not-refused v lists done e = rw (← e) refl
 
-ready : (P : Policy (List Packet)) (slots values : List ℕ) (room : ℕ) (lists : Lists) → Tested valueOk slots values room lists
-    → WellFormed slots values (course P first [] (arrivals slots values)) → Lawful P [] slots values room → Ready P slots values lists
-ready P slots values room lists T W L =
+ready : {S : Type 0} (P : Policy S) (s : S) (ok : ℕ → Bool) → ((v : ℕ) → ok v ≡ true → valueOk v ≡ true)
+    → (slots values : List ℕ) (room : ℕ) (lists : Lists) → Tested ok slots values room lists
+    → WellFormed slots values (course P first s (arrivals slots values)) → Lawful P s slots values room → Ready P s slots values lists
+ready P s ok in-range slots values room lists T W L =
     record {
       same = T .values-length;
       few = T .few;
       slots-fit = T .packets .slot-to;
-      values-fit = λ k h. within-to 1 (recordLimits .value) (getD values k 0) (T .packets .taken k (rw (T .values-length) at h));
+      values-fit = λ k h. within-to 1 (recordLimits .value) (getD values k 0) (in-range (getD values k 0) (T .packets .taken k (rw (T .values-length) at h)));
       sized = record { fates = T .fates-length; whens = T .whens-length; bys = T .bys-length };
       short = omega (arith, L .within-room, T .room-to);
       formed = W;
@@ -159,26 +160,26 @@ ready P slots values room lists T W L =
     }
 
 module _ (slots values : List ℕ) (room : ℕ) (lists : Lists) where
-  pub greedy-ready : clear ≡ plainRefusal slots values room lists → Ready (byRule (greedyRule room)) slots values lists
+  pub greedy-ready : clear ≡ plainRefusal slots values room lists → Ready (byRule (greedyRule room)) [] slots values lists
   unfolding plainRefusal
   greedy-ready e =
       let zero-number : plainRefusal slots values room lists .number ≡ 0 = ap (λ (v : Verdict). v .number) (sym e) in
       let T = accepted clear valueOk slots values room lists zero-number in
-      ready (byRule (greedyRule room)) slots values room lists T (wellFormed-greedy slots values (T .values-length) room) (lawful-greedy slots values room lists zero-number)
+      ready (byRule (greedyRule room)) [] valueOk (λ v h. h) slots values room lists T (wellFormed-greedy slots values (T .values-length) room) (lawful-greedy slots values room lists zero-number)
 
-  pub pg-ready : (beta : Beta) → clear ≡ pgRefusal beta slots values room lists → Ready (byRule (pgRule room beta)) slots values lists
+  pub pg-ready : (beta : Beta) → clear ≡ pgRefusal beta slots values room lists → Ready (byRule (pgRule room beta)) [] slots values lists
   unfolding pgRefusal
   pg-ready beta e =
       let zero-number : pgRefusal beta slots values room lists .number ≡ 0 = ap (λ (v : Verdict). v .number) (sym e) in
       let T = accepted (betaRefusal beta) valueOk slots values room lists zero-number in
-      ready (byRule (pgRule room beta)) slots values room lists T (wellFormed-pg slots values (T .values-length) room beta) (lawful-pg slots values room lists beta zero-number)
+      ready (byRule (pgRule room beta)) [] valueOk (λ v h. h) slots values room lists T (wellFormed-pg slots values (T .values-length) room beta) (lawful-pg slots values room lists beta zero-number)
 
-  pub plan-ready : clear ≡ plainRefusal slots values room lists → Ready (byRule (planRule room slots values)) slots values lists × Plannable room slots values
+  pub plan-ready : clear ≡ plainRefusal slots values room lists → Ready (byRule (planRule room slots values)) [] slots values lists × Plannable room slots values
   unfolding plainRefusal
   plan-ready e =
       let zero-number : plainRefusal slots values room lists .number ≡ 0 = ap (λ (v : Verdict). v .number) (sym e) in
       let T = accepted clear valueOk slots values room lists zero-number in (
-        ready (byRule (planRule room slots values)) slots values room lists T (wellFormed-plan slots values (T .values-length) room) (lawful-plan slots values room lists zero-number),
+        ready (byRule (planRule room slots values)) [] valueOk (λ v h. h) slots values room lists T (wellFormed-plan slots values (T .values-length) room) (lawful-plan slots values room lists zero-number),
         record {
           same = T .values-length;
           few = T .few;
@@ -187,4 +188,14 @@ module _ (slots values : List ℕ) (room : ℕ) (lists : Lists) where
           slots-fit = T .packets .slot-to;
           sorted = T .packets .rising;
         },
+      )
+
+  pub mf-ready : (M : Marking) → clear ≡ mfRefusal M slots values room lists → Ready (mfPolicy room M slots) (unmarked (length slots)) slots values lists × (1 ≤ room)
+  unfolding mfRefusal
+  mf-ready M e =
+      let zero-number : mfRefusal M slots values room lists .number ≡ 0 = ap (λ (v : Verdict). v .number) (sym e) in
+      let T = accepted (markingRefusal M) (loOrHi M) slots values room lists zero-number in (
+        ready (mfPolicy room M slots) (unmarked (length slots)) (loOrHi M) (λ v h. left-part (valueOk v) (eqb v (M .lo) || eqb v (M .hi)) h) slots values room lists T
+            (wellFormed-mf slots values (T .values-length) room M) (lawful-mf slots values room lists M zero-number),
+        T .room-from,
       )

@@ -1,10 +1,10 @@
 -- An arrival: what the window and the lists are after each choice, and that the choice made on the window's values is the rule's decision on its queue.
-use Prim.Native.Nat.{ℕ, zero, suc, min, _+_, _-_, _≤_, _<_}
+use Prim.Native.Nat.{ℕ, suc, _+_, _-_, _<_}
 use mathlib.Core.Path.{_≡_, refl, sym, ap, ap₂, subst, _∙_}
 use mathlib.Core.Bool.{Bool, true, false, cond}
 use mathlib.Core.List.{List, [], _∷_, _++_}
 use native.Mathlib.Omega.{arith}
-use lib.ListN.{length, getD, take, drop, length-append, length-take, length-drop}
+use lib.ListN.{length, getD, drop, length-append, length-take, length-drop}
 use lib.Seq.{getD-take, getD-drop}
 use lib.Dec.{ltb}
 use borrow.Author.Tests.{ltb-true}
@@ -13,10 +13,9 @@ use Rattle.model.specs.declared.Slot.{Slot}
 use Rattle.model.specs.declared.Fate.{Fate}
 use Rattle.model.specs.declared.Fate.the-variants as fates
 use Rattle.model.specs.declared.LossKind.{LossKind}
-use Rattle.model.specs.Packets.{Arrival, nobody, valuesOf}
-use Rattle.model.specs.Port.{packetsOf}
+use Rattle.model.specs.Packets.{nobody, valuesOf}
 use Rattle.model.specs.Record.{Lists, enter, entered, lossFate}
-use Rattle.model.specs.Course.{Step, Decided, byRule}
+use Rattle.model.specs.Course.{Decided, byRule}
 use Rattle.model.specs.Policies.Greedy.{without, loserAt}
 use Rattle.queue.specs.declared.Rule.{Rule}
 use Rattle.queue.specs.declared.Choice.{Choice}

@@ -1,14 +1,14 @@
 -- The loop that counts: what each fate has so far and what is left to count come to what there is in all.
-use Prim.Native.Nat.{ℕ, zero, suc, _+_, _*_, _≤_, _<_}
+use Prim.Native.Nat.{ℕ, suc, _+_, _*_, _≤_, _<_}
 use mathlib.Core.Path.{_≡_, refl, sym, ap, ap₂, _∙_}
-use mathlib.Core.Bool.{Bool, true, false, cond}
+use mathlib.Core.Bool.{cond}
 use mathlib.Core.List.{List, [], _∷_}
 use native.Mathlib.Numerals.{add-one}
 use native.Mathlib.Omega.{arith}
 use lib.ListN.{length, getD, drop, set, replicate, length-set, drop-of-length-le, getD-replicate}
 use lib.Seq.{drop-cons, getD-set-same, getD-set-other}
 use lib.Dec.{eqb}
-use borrow.Author.Tests.{eq-eqb, ne-eqb}
+use borrow.Author.Tests.{eq-eqb}
 use Rattle.model.specs.declared.Fate.{Fate}
 use Rattle.model.specs.declared.Fate.the-variants.{Sent, Rejected, PushedOut, Preempted, Flushed}
 use Rattle.model.specs.declared.Tally.{Tally}

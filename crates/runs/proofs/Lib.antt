@@ -4,8 +4,14 @@ pub mod Arriving
 pub mod Turning
 pub mod Counting
 pub mod Places
+pub mod Coursing
 pub mod Running
 pub mod Ordering
 pub mod Keeping
 pub mod Planning
 pub mod Answering
+pub mod Marking
+pub mod Flushing
+pub mod Ending
+pub mod Finishing
+pub mod RunningMF

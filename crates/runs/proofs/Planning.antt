@@ -1,13 +1,14 @@
 -- Why the plan's run is the run of its rule: a packet is held or rejected as its entry in the kept list says, and that list is the plan's.
 use Prim.Native.Nat.{ℕ, zero, suc, _≤_}
 use mathlib.Core.Path.{_≡_, refl, sym, ap, subst, _∙_}
-use mathlib.Core.List.{List, _∷_}
+use mathlib.Core.List.{List, [], _∷_}
 use native.Mathlib.Omega.{arith}
 use lib.ListN.{length, getD, take, replicate, length-replicate}
 use borrow.Author.Tests.{ne-eqb}
 use Rattle.model.specs.declared.Packet.{Packet}
 use Rattle.model.specs.Packets.{placeOf, arrivals}
 use Rattle.model.specs.Record.{Lists}
+use Rattle.model.specs.Course.{byRule}
 use Rattle.model.specs.Policies.Plan.{keepInTurn, planKept, keptRule}
 use Rattle.laws.proofs.Room.{mostQueue-plan}
 use Rattle.queue.specs.declared.Choice.the-variants.{Hold, Reject}
@@ -29,10 +30,10 @@ module _ (kept : List ℕ) (queue : List Packet) (p : Packet) (place : ℕ) (at 
   kept-rejects n = rw (← at, ne-eqb (getD kept place 0) 1 n) refl
 
 -- no packet is kept yet
-pub none-kept : (n many : ℕ) → n ≤ many → take {A = ℕ} n (replicate many 0) ≡ replicate n 0
-none-kept zero many h = refl
-none-kept (suc n) zero h = absurd (omega arith)
-none-kept (suc n) (suc many) h = ap (λ (kept : List ℕ). 0 ∷ kept) (none-kept n many (omega arith))
+pub first-zeros : (n many : ℕ) → n ≤ many → take {A = ℕ} n (replicate many 0) ≡ replicate n 0
+first-zeros zero many h = refl
+first-zeros (suc n) zero h = absurd (omega arith)
+first-zeros (suc n) (suc many) h = ap (λ (kept : List ℕ). 0 ∷ kept) (first-zeros n many (omega arith))
 
 module _ (room : ℕ) (slots values : List ℕ) (P : Plannable room slots values) where
   pub plan-keepable : (kept : List ℕ) → kept ≡ replicate (length slots) 0 → Keepable slots room kept
@@ -51,7 +52,7 @@ module _ (room : ℕ) (slots values : List ℕ) (P : Plannable room slots values
         ∙ ap (λ (k : List ℕ). keepInTurn room (arrivals slots values) k (packetsAt slots values order)) (none ∙ ap (λ (n : ℕ). replicate n 0) (sym (arrivals-length 1 slots values (P .same))))
         ∙ ap (keepInTurn room (arrivals slots values) (replicate (length (arrivals slots values)) 0)) (O .by-value slots (sym (P .same)))
 
-    pub plan-runnable : Runnable (keptRule kept′) slots values
+    pub plan-runnable : Runnable (byRule (keptRule kept′)) [] slots values
     plan-runnable =
         record {
           same = P .same;
@@ -60,5 +61,5 @@ module _ (room : ℕ) (slots values : List ℕ) (P : Plannable room slots values
           short = rw plan-kept (omega (arith, mostQueue-plan room (arrivals slots values), P .room-to));
         }
 
-    pub plan-ran : (before after : Lists) (most : ℕ) → Ran (keptRule kept′) slots values before after most → Ran (planRule room slots values) slots values before after most
-    plan-ran before after most R = subst (λ (k : List ℕ). Ran (keptRule k) slots values before after most) plan-kept R
+    pub plan-ran : (before after : Lists) (most : ℕ) → Ran (byRule (keptRule kept′)) [] slots values before after most → Ran (byRule (planRule room slots values)) [] slots values before after most
+    plan-ran before after most R = subst (λ (k : List ℕ). Ran (byRule (keptRule k)) [] slots values before after most) plan-kept R

@@ -1,17 +1,16 @@
 -- The loop that sends: what is left to send, done on the lists as they are now, gives what the whole sending gives on the lists as they were.
 use Prim.Native.Nat.{ℕ, zero, suc, _+_, _-_, _≤_, _<_}
 use mathlib.Core.Path.{_≡_, refl, sym, ap, _∙_}
-use mathlib.Core.List.{List, [], _∷_, _++_}
+use mathlib.Core.List.{List, [], _∷_}
 use native.Mathlib.Numerals.{add-one}
 use native.Mathlib.Omega.{arith}
 use mathlib.Core.Bool.{Bool, true, false}
-use lib.ListN.{length, getD}
+use lib.ListN.{getD}
 use lib.Dec.{ltb}
 use borrow.Author.Tests.{ltb-true, ltb-false}
 use Rattle.model.specs.declared.Packet.{Packet}
 use Rattle.model.specs.declared.Slot.{Slot}
-use Rattle.model.specs.declared.SlotAnswer.{SlotAnswer}
-use Rattle.model.specs.declared.SlotAnswer.the-variants.{Sent, Idle}
+use Rattle.model.specs.declared.SlotAnswer.the-variants.{Sent}
 use Rattle.model.specs.declared.Fate.the-variants as fates
 use Rattle.model.specs.Record.{Lists, enter, entered, sentAt}
 use Rattle.model.specs.Course.{Step, Decided, andThen, byRule, slotEnds}

@@ -1,21 +1,20 @@
 -- What a window holds after its lists have moved or changed: the part of each list first, then the packets of the two parts.
 use Prim.Native.Nat.{ℕ, zero, suc, min, _+_, _-_, _≤_, _<_}
-use mathlib.Core.Path.{_≡_, refl, sym, ap, ap₂, _∙_}
-use mathlib.Core.List.{List, [], _∷_, _++_, append-nil}
+use mathlib.Core.Path.{_≡_, sym, ap, ap₂, _∙_}
+use mathlib.Core.List.{List, [], _∷_, _++_}
 use native.Mathlib.Numerals.{add-one}
 use native.Mathlib.Omega.{arith}
 use native.Mathlib.Nat.{zero-add, suc-add}
 use lib.ListN.{length, getD, take, drop, set, length-take, length-drop, length-set}
-use lib.Seq.{paste, take-nil, drop-append-le, take-paste, length-paste, drop-set-add, take-suc-set, take-take, drop-drop, drop-cons, getD-drop, getD-take}
+use lib.Seq.{paste, take-nil, drop-append-le, take-paste, length-paste, drop-set-add, take-suc-set, take-take, drop-drop, drop-cons}
 use Rattle.model.specs.declared.Packet.{Packet}
-use Rattle.model.specs.Packets.{nobody, valuesOf}
 use Rattle.model.specs.Port.{packetsOf}
 use Rattle.model.specs.Policies.Greedy.{without}
 use Rattle.queue.specs.Slide.{slid}
 use Rattle.queue.proofs.Moving.{slid-moved}
-use Rattle.queue.proofs.Packets.{packets-take, packets-drop, packets-append, packets-values, packets-length, packets-at}
+use Rattle.queue.proofs.Packets.{packets-take, packets-drop, packets-append}
 use Rattle.runs.specs.declared.window.Window.{Window}
-use Rattle.runs.specs.Window.{part, windowOf, Within, Opened, Holds, oldestOf}
+use Rattle.runs.specs.Window.{part, windowOf, Within, Opened, Holds}
 
 abbrev pub window : ℕ → ℕ → Window
 window head tail = record { head = head; tail = tail }

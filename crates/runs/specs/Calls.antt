@@ -3,7 +3,6 @@ use Prim.Native.Nat.{ℕ, _≤_, _<_}
 use mathlib.Core.Path.{_≡_}
 use mathlib.Core.List.{List, []}
 use lib.ListN.{length, getD}
-use Rattle.model.specs.declared.Packet.{Packet}
 use Rattle.model.specs.declared.RunAnswer.{RunAnswer}
 use Rattle.model.specs.Limits.{recordLimits, portLimits}
 use Rattle.model.specs.Packets.{arrivals}
@@ -19,13 +18,13 @@ use Rattle.laws.proofs.Held.{mostQueue}
 abbrev pub outcome : RunAnswer → Lists → Outcome
 outcome answer lists = record { reply = ofRun answer; lists = lists }
 
--- an accepted trace on which a policy's record is well formed, and its most held is the greatest length of its queue
-pub record Ready (P : Policy (List Packet)) (slots values : List ℕ) (lists : Lists) : Type 0 where
+-- an accepted trace on which a policy's record, from the state s, is well formed, and its most held is the greatest length of its queue
+pub record Ready {S : Type 0} (P : Policy S) (s : S) (slots values : List ℕ) (lists : Lists) : Type 0 where
   pub same : length values ≡ length slots
   pub few : length slots ≤ recordLimits .packets
   pub slots-fit : (k : ℕ) → k < length slots → getD slots k 0 ≤ recordLimits .slot
   pub values-fit : (k : ℕ) → k < length values → getD values k 0 ≤ recordLimits .value
   pub sized : Sized (length slots) lists
-  pub short : mostQueue P first [] (arrivals slots values) ≤ portLimits .room
-  pub formed : WellFormed slots values (course P first [] (arrivals slots values))
-  pub most : mostHeldFrom [] (recorded slots values (course P first [] (arrivals slots values))) ≡ mostQueue P first [] (arrivals slots values)
+  pub short : mostQueue P first s (arrivals slots values) ≤ portLimits .room
+  pub formed : WellFormed slots values (course P first s (arrivals slots values))
+  pub most : mostHeldFrom [] (recorded slots values (course P first s (arrivals slots values))) ≡ mostQueue P first s (arrivals slots values)

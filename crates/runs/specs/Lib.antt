@@ -8,3 +8,5 @@ pub mod Keep
 pub mod Plan
 pub mod Totals
 pub mod Calls
+pub mod Mark
+pub mod Flush

@@ -1,17 +1,23 @@
 // The public calls on a trace: each tests its input, runs, and answers the totals of the record that it wrote.
 ghost use mathlib.Core.Path.{_≡_};
-ghost use Rattle.model.specs.Calls.{ran, greedyCall, pgCall, planCall};
+ghost use Prim.Native.Nat.{_≤_};
+ghost use lib.ListN.{length};
+ghost use Rattle.model.specs.Calls.{ran, greedyCall, pgCall, planCall, mfCall};
+ghost use Rattle.model.specs.Policies.MF.{mfPolicy, mfRun, unmarked};
 ghost use Rattle.model.specs.Course.{byRule, course, first};
 ghost use Rattle.model.specs.Packets.{arrivals};
 ghost use mathlib.Core.List.{[]};
 ghost use Rattle.queue.specs.Choose.{ruleOf};
+ghost use Rattle.trace.specs.Checked.{markingOf};
 ghost use Rattle.runs.specs.Entry.{lists};
 ghost use Rattle.runs.specs.Plan.{planRule, Plannable};
 ghost use Rattle.runs.specs.Calls.{Ready, outcome};
+use crate::mf::run_mf;
 use crate::plan::run_plan;
 use crate::run::run;
 use crate::totals::totals;
 use model::Beta;
+use model::Record;
 use model::RunAnswer;
 use queue::Rule;
 use trace::Checked;
@@ -26,7 +32,7 @@ fn finish(
     whens: &mut [u32],
     bys: &mut [u32],
 ) -> RunAnswer
-    requires { ⌜ Ready (byRule (ruleOf room rule)) (now slots) (now values) (lists (now fates) (now whens) (now bys)) ⌝ }
+    requires { ⌜ Ready (byRule (ruleOf room rule)) [] (now slots) (now values) (lists (now fates) (now whens) (now bys)) ⌝ }
     ensures { λ r. ⌜ outcome r (lists (now (fates .exit)) (now (whens .exit)) (now (bys .exit))) ≡ ran (now (slots .entry)) (now (values .entry)) (course (byRule (ruleOf room rule)) first [] (arrivals (now (slots .entry)) (now (values .entry)))) ⌝ }
 {
     let most = run(slots, values, room, rule, fates, whens, bys);
@@ -77,7 +83,7 @@ fn finish_plan(
     whens: &mut [u32],
     bys: &mut [u32],
 ) -> RunAnswer
-    requires { ⌜ Ready (byRule (planRule room (now slots) (now values))) (now slots) (now values) (lists (now fates) (now whens) (now bys)) ⌝ }
+    requires { ⌜ Ready (byRule (planRule room (now slots) (now values))) [] (now slots) (now values) (lists (now fates) (now whens) (now bys)) ⌝ }
     requires { ⌜ Plannable room (now slots) (now values) ⌝ }
     ensures { λ r. ⌜ outcome r (lists (now (fates .exit)) (now (whens .exit)) (now (bys .exit))) ≡ ran (now (slots .entry)) (now (values .entry)) (course (byRule (planRule room (now (slots .entry)) (now (values .entry)))) first [] (arrivals (now (slots .entry)) (now (values .entry)))) ⌝ }
 {
@@ -100,5 +106,58 @@ pub fn plan(
     match tested {
         Checked::Refused(refusal) => RunAnswer::Refused(refusal),
         Checked::Accepted => finish_plan(slots, values, room, fates, whens, bys),
+    }
+}
+
+// MF's run over an accepted trace, and its totals.
+fn finish_mf(
+    slots: &[u32],
+    values: &[u32],
+    room: usize,
+    lo: u32,
+    hi: u32,
+    r: usize,
+    fates: &mut [u32],
+    whens: &mut [u32],
+    bys: &mut [u32],
+) -> RunAnswer
+    requires { ⌜ Ready (mfPolicy room (markingOf lo hi r) (now slots)) (unmarked (length (now slots))) (now slots) (now values) (lists (now fates) (now whens) (now bys)) ⌝ }
+    requires { ⌜ 1 ≤ room ⌝ }
+    ensures { λ answer. ⌜ outcome answer (lists (now (fates .exit)) (now (whens .exit)) (now (bys .exit))) ≡ ran (now (slots .entry)) (now (values .entry)) (mfRun room (markingOf lo hi r) (now (slots .entry)) (now (values .entry))) ⌝ }
+{
+    let mut marks = [0u32; Record::PACKETS];
+    let n = slots.len();
+    let most_held = run_mf(
+        slots,
+        values,
+        room,
+        lo,
+        hi,
+        r,
+        &mut marks[..n],
+        fates,
+        whens,
+        bys,
+    );
+    RunAnswer::Ran(totals(values, fates, most_held))
+}
+
+// MF.
+pub fn mf(
+    slots: &[u32],
+    values: &[u32],
+    room: usize,
+    lo: u32,
+    hi: u32,
+    r: usize,
+    fates: &mut [u32],
+    whens: &mut [u32],
+    bys: &mut [u32],
+) -> RunAnswer
+    ensures { λ answer. ⌜ outcome answer (lists (now (fates .exit)) (now (whens .exit)) (now (bys .exit))) ≡ mfCall (now (slots .entry)) (now (values .entry)) room (markingOf lo hi r) (lists (now (fates .entry)) (now (whens .entry)) (now (bys .entry))) ⌝ }
+{
+    match trace::mf(slots, values, room, lo, hi, r, fates, whens, bys) {
+        Checked::Refused(refusal) => RunAnswer::Refused(refusal),
+        Checked::Accepted => finish_mf(slots, values, room, lo, hi, r, fates, whens, bys),
     }
 }

@@ -9,7 +9,7 @@ use model::PacketNumber;
 use model::Slot;
 
 // The list with a number at a place; unchanged where it has no such place.
-fn put(list: &mut [u32], place: usize, number: u32)
+pub fn put(list: &mut [u32], place: usize, number: u32)
     ensures { λ _. ⌜ now (list .exit) ≡ set (now (list .entry)) place number ⌝ }
 {
     if place < list.len() {

@@ -1,7 +1,10 @@
-// Plain greedy, PG and the offline plan on a trace.
+// Plain greedy, PG, MF and the offline plan on a trace.
 pub mod calls;
 mod entry;
+mod flush;
 mod keep;
+mod mark;
+mod mf;
 mod order;
 mod plan;
 mod run;

@@ -1,5 +1,7 @@
 // The offline plan on an accepted trace: which packets it keeps, and the run in which these are held and all others rejected.
 ghost use mathlib.Core.Path.{_≡_};
+ghost use mathlib.Core.List.{[]};
+ghost use Rattle.model.specs.Course.{byRule};
 ghost use Prim.Native.Nat.{_-_, _<_};
 ghost use lib.ListN.{length, replicate};
 ghost use Rattle.model.specs.Packets.{placeOf};
@@ -79,9 +81,9 @@ fn run(
     whens: &mut [u32],
     bys: &mut [u32],
 ) -> u32
-    requires { ⌜ Runnable (keptRule (now kept)) (now slots) (now values) ⌝ }
+    requires { ⌜ Runnable (byRule (keptRule (now kept))) [] (now slots) (now values) ⌝ }
     requires { ⌜ length (now kept) ≡ length (now slots) ⌝ }
-    ensures { λ r. ⌜ Ran (keptRule (now (kept .entry))) (now (slots .entry)) (now (values .entry)) (lists (now (fates .entry)) (now (whens .entry)) (now (bys .entry))) (lists (now (fates .exit)) (now (whens .exit)) (now (bys .exit))) r ⌝ }
+    ensures { λ r. ⌜ Ran (byRule (keptRule (now (kept .entry)))) [] (now (slots .entry)) (now (values .entry)) (lists (now (fates .entry)) (now (whens .entry)) (now (bys .entry))) (lists (now (fates .exit)) (now (whens .exit)) (now (bys .exit))) r ⌝ }
 {
     let mut numbers = [0u32; PLACES];
     let mut held = [0u32; PLACES];
@@ -144,7 +146,7 @@ fn plan_on(
     requires { ⌜ Plannable room (now slots) (now values) ⌝ }
     requires { ⌜ length (now order) ≡ length (now slots) ⌝ }
     requires { ⌜ now kept ≡ replicate (length (now slots)) 0 ⌝ }
-    ensures { λ r. ⌜ Ran (planRule room (now (slots .entry)) (now (values .entry))) (now (slots .entry)) (now (values .entry)) (lists (now (fates .entry)) (now (whens .entry)) (now (bys .entry))) (lists (now (fates .exit)) (now (whens .exit)) (now (bys .exit))) r ⌝ }
+    ensures { λ r. ⌜ Ran (byRule (planRule room (now (slots .entry)) (now (values .entry)))) [] (now (slots .entry)) (now (values .entry)) (lists (now (fates .entry)) (now (whens .entry)) (now (bys .entry))) (lists (now (fates .exit)) (now (whens .exit)) (now (bys .exit))) r ⌝ }
 {
     by_falling_value(values, order);
     keep_in_turn(slots, room, order, kept);
@@ -161,7 +163,7 @@ pub fn run_plan(
     bys: &mut [u32],
 ) -> u32
     requires { ⌜ Plannable room (now slots) (now values) ⌝ }
-    ensures { λ r. ⌜ Ran (planRule room (now (slots .entry)) (now (values .entry))) (now (slots .entry)) (now (values .entry)) (lists (now (fates .entry)) (now (whens .entry)) (now (bys .entry))) (lists (now (fates .exit)) (now (whens .exit)) (now (bys .exit))) r ⌝ }
+    ensures { λ r. ⌜ Ran (byRule (planRule room (now (slots .entry)) (now (values .entry)))) [] (now (slots .entry)) (now (values .entry)) (lists (now (fates .entry)) (now (whens .entry)) (now (bys .entry))) (lists (now (fates .exit)) (now (whens .exit)) (now (bys .exit))) r ⌝ }
 {
     let mut order = [0u16; Record::PACKETS];
     let mut kept = [0u8; Record::PACKETS];

@@ -1,5 +1,7 @@
 // The run of a rule over an accepted trace.
 ghost use mathlib.Core.Path.{_≡_};
+ghost use mathlib.Core.List.{[]};
+ghost use Rattle.model.specs.Course.{byRule};
 ghost use Rattle.queue.specs.Choose.{ruleOf};
 ghost use Rattle.runs.specs.Entry.{lists};
 ghost use Rattle.runs.specs.Run.{Runnable, Ran};
@@ -25,8 +27,8 @@ pub fn run(
     whens: &mut [u32],
     bys: &mut [u32],
 ) -> u32
-    requires { ⌜ Runnable (ruleOf room rule) (now slots) (now values) ⌝ }
-    ensures { λ r. ⌜ Ran (ruleOf room rule) (now (slots .entry)) (now (values .entry)) (lists (now (fates .entry)) (now (whens .entry)) (now (bys .entry))) (lists (now (fates .exit)) (now (whens .exit)) (now (bys .exit))) r ⌝ }
+    requires { ⌜ Runnable (byRule (ruleOf room rule)) [] (now slots) (now values) ⌝ }
+    ensures { λ r. ⌜ Ran (byRule (ruleOf room rule)) [] (now (slots .entry)) (now (values .entry)) (lists (now (fates .entry)) (now (whens .entry)) (now (bys .entry))) (lists (now (fates .exit)) (now (whens .exit)) (now (bys .exit))) r ⌝ }
 {
     let mut numbers = [0u32; PLACES];
     let mut held = [0u32; PLACES];

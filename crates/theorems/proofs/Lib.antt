@@ -16,4 +16,5 @@ pub mod Kept
 pub mod PlanSends
 pub mod Demand3
 pub mod Answered
+pub mod PlainMF
 pub mod Fed

@@ -1,3 +1,4 @@
+use mathlib.Core.List.{[]}
 use Rattle.model.specs.Course.{byRule}
 use Rattle.queue.specs.Choose.{ruleOf}
 use Rattle.runs.proofs.Answering.{all-written, countable, answered}
@@ -20,7 +21,7 @@ totals-requires c κs =
     let a = start .args in
     let done = c .before .before .before .before .before .before .before .run in
     let P = byRule (ruleOf (a .room) (a .rule)) in
-    countable P (a .slots .now) (a .values .now) _ (start .pre) _ (all-written P (a .slots .now) (a .values .now) _ (start .pre) _ (done .ensures .written))
+    countable P [] (a .slots .now) (a .values .now) _ (start .pre) _ (all-written P [] (a .slots .now) (a .values .now) _ (start .pre) _ (done .ensures .written))
 
 -- src/calls.rt:18:1
 same-length : tie.Need-same-length
@@ -41,7 +42,7 @@ returns c =
     let a = start .args in
     let done = c .before .before .before .before .before .before .before .before .run in
     let P = byRule (ruleOf (a .room) (a .rule)) in
-    answered P (a .slots .now) (a .values .now) _ (start .pre) _ (all-written P (a .slots .now) (a .values .now) _ (start .pre) _ (done .ensures .written))
+    answered P [] (a .slots .now) (a .values .now) _ (start .pre) _ (all-written P [] (a .slots .now) (a .values .now) _ (start .pre) _ (done .ensures .written))
     (done .result) (done .ensures .longest) (c .totals .result) (c .totals .ensures)
 
 pub finish-spec : {M : Type 1} → statement M

@@ -1,4 +1,5 @@
 -- The run writes the record and answers the queue's greatest length, and the totals are counted from the record.
+use mathlib.Core.List.{[]}
 use borrow.Author.Needs.{needs}
 use Rattle.model.specs.Course.{byRule}
 use Rattle.runs.specs.Plan.{planRule}
@@ -15,7 +16,7 @@ totals-requires c κs =
     let a = start .args in
     let done = c .before .before .before .before .before .before .before .run-plan in
     let P = byRule (planRule (a .room) (a .slots .now) (a .values .now)) in
-    countable P (a .slots .now) (a .values .now) _ (start .pre .0) _ (all-written P (a .slots .now) (a .values .now) _ (start .pre .0) _ (done .ensures .written))
+    countable P [] (a .slots .now) (a .values .now) _ (start .pre .0) _ (all-written P [] (a .slots .now) (a .values .now) _ (start .pre .0) _ (done .ensures .written))
 
 same-length : tie.Need-same-length
 same-length c = search needs
@@ -32,7 +33,7 @@ returns c =
     let a = start .args in
     let done = c .before .before .before .before .before .before .before .before .run-plan in
     let P = byRule (planRule (a .room) (a .slots .now) (a .values .now)) in
-    answered P (a .slots .now) (a .values .now) _ (start .pre .0) _ (all-written P (a .slots .now) (a .values .now) _ (start .pre .0) _ (done .ensures .written))
+    answered P [] (a .slots .now) (a .values .now) _ (start .pre .0) _ (all-written P [] (a .slots .now) (a .values .now) _ (start .pre .0) _ (done .ensures .written))
     (done .result) (done .ensures .longest) (c .totals .result) (c .totals .ensures)
 
 pub finish-plan-spec : {M : Type 1} → statement M

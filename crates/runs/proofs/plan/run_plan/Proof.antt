@@ -4,7 +4,7 @@ use mathlib.Core.Path.{sym}
 use lib.ListN.{length}
 use lib.Seq.{length-take-le}
 use Rattle.model.specs.Limits.{recordLimits}
-use Rattle.runs.proofs.Planning.{none-kept}
+use Rattle.runs.proofs.Planning.{first-zeros}
 use Rattle.runs.proofs.plan.run_plan.Statement.{statement}
 use Rattle.runs.proofs.plan.run_plan.Tie as tie
 
@@ -28,7 +28,7 @@ plan-on-requires : tie.Need-plan-on-requires
 plan-on-requires c κs =
     let start = c .before .before .before .before .before .before .before .before .before .before in
     let n = length (start .args .slots .now) in
-    (start .pre, (length-take-le n _ (start .pre .few), none-kept n (recordLimits .packets) (start .pre .few)))
+    (start .pre, (length-take-le n _ (start .pre .few), first-zeros n (recordLimits .packets) (start .pre .few)))
 
 same-length : tie.Need-same-length
 same-length c = search needs
