@@ -67,8 +67,8 @@ fn mark_down(
     let mut i = n;
     let mut left = r;
     while 0 < i && 0 < left {
+        let k = head + (i - 1);
         i -= 1;
-        let k = head + i;
         let p = Packet {
             number: PacketNumber(numbers[k]),
             value: values[k],

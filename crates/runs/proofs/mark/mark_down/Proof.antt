@@ -19,11 +19,14 @@ abbrev μ-loop : tie.MeasureT-loop
 loop-holds : tie.Need-loop-holds Inv-loop μ-loop
 loop-holds c = down-all _ _ _ _ _ _ _ _
 
-sub-i : tie.Need-sub-i Inv-loop μ-loop
-sub-i c = search needs
+sub-k : tie.Need-sub-k Inv-loop μ-loop
+sub-k c = search needs
 
 add-k : tie.Need-add-k Inv-loop μ-loop
 add-k c = search needs
+
+sub-i : tie.Need-sub-i Inv-loop μ-loop
+sub-i c = search needs
 
 mul-t15 : tie.Need-mul-t15 Inv-loop μ-loop
 mul-t15 c = search needs
@@ -95,8 +98,9 @@ mark-down-spec =
     Inv-loop
     μ-loop
     loop-holds
-    sub-i
+    sub-k
     add-k
+    sub-i
     mul-t15
     shared-slice-read-t17
     mul-t19
