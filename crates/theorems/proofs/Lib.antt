@@ -17,4 +17,5 @@ pub mod PlanSends
 pub mod Demand3
 pub mod Answered
 pub mod PlainMF
+pub mod FlushLeaves
 pub mod Fed

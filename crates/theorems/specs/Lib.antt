@@ -1,3 +1,4 @@
 pub mod Demand3
 pub mod PlainMF
+pub mod FlushLeaves
 pub mod Fed
