@@ -23,7 +23,7 @@ pub enum Choice {
 fn lowest(values: &[u32]) -> u32
     ensures { λ r. ⌜ r ≡ lowestOf (now (values .entry)) ⌝ }
 {
-    let mut low: u32 = 4_294_967_295;
+    let mut low = u32::MAX;
     let mut i = 0;
     while i < values.len() {
         if values[i] < low {
