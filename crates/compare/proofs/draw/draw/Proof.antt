@@ -1,0 +1,21 @@
+-- `compare::draw::draw` meets its contract: what is left of a division by k is below k, and so fits.
+use borrow.Author.Needs.{needs}
+use native.Mathlib.Omega.{arith}
+use native.Mathlib.Nat.{mod-lt, lt-of-lt-of-le}
+use Rattle.compare.proofs.draw.draw.Statement.{statement}
+use Rattle.compare.proofs.draw.draw.Tie as tie
+
+step-requires : tie.Need-step-requires
+step-requires c κs = search needs
+
+rem-result : tie.Need-rem-result
+rem-result c = search needs
+
+cast-result : tie.Need-cast-result
+cast-result c = record { fits = lt-of-lt-of-le (mod-lt _ (search needs)) (omega arith) }
+
+returns : tie.Need-returns
+returns c = mod-lt _ (search needs)
+
+pub draw-spec : {M : Type 1} → statement M
+draw-spec = tie.close (tie.spec step-requires rem-result cast-result returns)
