@@ -4,3 +4,4 @@ pub mod Fields
 pub mod Input
 pub mod Output
 pub mod Bench
+pub mod Reading
