@@ -1,2 +1,5 @@
 pub mod Fielding
 pub mod Parsing
+pub mod Lining
+pub mod Telling
+pub mod Whole

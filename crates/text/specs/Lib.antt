@@ -5,3 +5,5 @@ pub mod Input
 pub mod Output
 pub mod Bench
 pub mod Reading
+pub mod Says
+pub mod Whole

@@ -63,7 +63,7 @@ wholeKind name f =
     (cond (eqb (f .letters) 0) (Number (f .number)) Neither)
 
 abbrev pub kindBy : Stage → List ℕ → Field → Kind
-kindBy Fresh name f = Neither
+kindBy Fresh name f = wholeKind name f
 kindBy Bare name f = wholeKind name f
 kindBy Open name f = Neither
 kindBy Closed name f = wholeKind name f

@@ -177,9 +177,9 @@ impl Field {
     {
         let stage = self.stage;
         match stage {
+            Stage::Fresh => self.whole(name),
             Stage::Bare => self.whole(name),
             Stage::Closed => self.whole(name),
-            Stage::Fresh => Kind::Neither,
             Stage::Open => Kind::Neither,
             Stage::Bad => Kind::Neither,
         }
