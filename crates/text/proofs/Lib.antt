@@ -3,3 +3,4 @@ pub mod Parsing
 pub mod Lining
 pub mod Telling
 pub mod Whole
+pub mod Writing

@@ -7,3 +7,4 @@ pub mod Bench
 pub mod Reading
 pub mod Says
 pub mod Whole
+pub mod Writing
