@@ -4,3 +4,4 @@ pub mod Lining
 pub mod Telling
 pub mod Whole
 pub mod Writing
+pub mod Saying

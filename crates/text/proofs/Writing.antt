@@ -55,15 +55,19 @@ module _ (at : ℕ) (text out : List ℕ) (at′ : ℕ) (out′ : List ℕ) wher
         long = length-set out′ at′ b ∙ L .long;
       }
 
-  pub left-none : (text′ : List ℕ) → text′ ≡ [] → Left at text out at′ text′ out′ → Wrote at text out at′ out′
-  left-none text′ e L =
+  pub left-none : (text′ : List ℕ) → text′ ≡ [] → at′ ≤ length out′ → Left at text out at′ text′ out′ → Wrote at text out at′ out′
+  left-none text′ e fits L =
       record {
+        inside = omega (arith, ap length e, L .behind, L .long);
         written = ap (sets out′ at′) (sym e) ∙ L .is;
         behind = omega (arith, ap length e, L .behind);
       }
 
 pub wrote-same : {at next : ℕ} {text text′ out out′ after : List ℕ} → text ≡ text′ → out ≡ out′ → Wrote at text out next after → Wrote at text′ out′ next after
-wrote-same {at} t o W = record { written = W .written ∙ ap₂ (λ (w l : List ℕ). sets l at w) t o; behind = W .behind ∙ ap (λ (w : List ℕ). at + length w) t }
+wrote-same {at} t o W = record { inside = omega (arith, W .inside, ap length t, ap length o); written = W .written ∙ ap₂ (λ (w l : List ℕ). sets l at w) t o; behind = W .behind ∙ ap (λ (w : List ℕ). at + length w) t }
+
+pub wrote-fits : (at : ℕ) (text out : List ℕ) (next : ℕ) (after : List ℕ) → Wrote at text out next after → next ≤ length after
+wrote-fits at text out next after W = omega (arith, W .inside, W .behind, ap length (W .written), length-sets out at text)
 
 -- the loop over the bytes
 pub put-start : (at : ℕ) (text out : List ℕ) → Left at text out (at + 0) (drop 0 text) out
@@ -168,6 +172,7 @@ pub wrote-both : {at middle next : ℕ} {first second out between after : List �
     → Wrote at (first ++ second) out next after
 wrote-both {at} {first = first} {second} {out} U W =
     record {
+      inside = omega (arith, W .inside, U .behind, length-append first second, ap length (U .written), length-sets out at first);
       written = W .written ∙ ap₂ (λ (n : ℕ) (o : List ℕ). sets o n second) (U .behind) (U .written) ∙ sym (sets-append out at first second);
       behind = omega (arith, U .behind, W .behind, length-append first second);
     }

@@ -1,11 +1,12 @@
--- Some bytes written into a list from a place on: the list with them there, and the place behind them.
-use Prim.Native.Nat.{ℕ, _+_}
+-- Some bytes written into a list from a place on: there is room for them, the list has them there, and the place behind them.
+use Prim.Native.Nat.{ℕ, _+_, _≤_}
 use mathlib.Core.Path.{_≡_}
 use mathlib.Core.List.{List}
 use lib.ListN.{length}
 use lib.Seq.{sets}
 
 pub record Wrote (at : ℕ) (text out : List ℕ) (next : ℕ) (out′ : List ℕ) : Type 0 where
+  pub inside : at + length text ≤ length out
   pub written : out′ ≡ sets out at text
   pub behind : next ≡ at + length text
 

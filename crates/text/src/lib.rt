@@ -3,3 +3,4 @@
 mod field;
 mod output;
 pub mod parser;
+mod run;

@@ -2,10 +2,14 @@
 // a count that stops at one more; a bad line, once found, is kept, whatever follows.
 ghost use mathlib.Core.Path.{_≡_};
 ghost use lib.ListN.{set};
+ghost use Rattle.text.specs.Says.{Answered};
 ghost use Rattle.text.specs.Reading.{startParser, withField, spoiled as spoiling, afterReturn, nextLine, secondField, inFirst, inLine, atStart, headerBy, packetBy, kept, lineEnded, after, afterAll, finished, state};
 use crate::field::Field;
 use crate::field::Kind;
 use crate::field::Stage;
+use crate::output::put_refusal;
+use crate::run::run;
+use model::Cause;
 use model::Record;
 
 const COMMA: u8 = b',';
@@ -39,6 +43,9 @@ fn put(list: &mut [u32], place: usize, number: u32)
 }
 
 impl Parser {
+    // The longest answer: the header, and a packet's six numbers of at most 20 digits, each with a comma or the line's end behind it.
+    pub const OUTPUT: usize = 32 + 128 * Record::PACKETS;
+
     // Before the first byte.
     pub fn new() -> Self
         ensures { λ r. ⌜ r ≡ startParser ⌝ }
@@ -261,5 +268,30 @@ impl Parser {
             return self;
         }
         self.end_line(slots, values)
+    }
+
+    // What a parser that has come to the end of its input says, and how many bytes that is. Nothing is written where a list is not as long as it has to be.
+    pub fn answer(self, slots: &[u32], values: &[u32], out: &mut [u8]) -> usize
+        ensures { λ r. ⌜ Answered (state self (now (slots .entry)) (now (values .entry))) (now (out .entry)) r (now (out .exit)) ⌝ }
+    {
+        if slots.len() != Record::PACKETS {
+            return 0;
+        }
+        if values.len() != Record::PACKETS {
+            return 0;
+        }
+        if out.len() < Parser::OUTPUT {
+            return 0;
+        }
+        let field = self.field;
+        let stage = field.stage;
+        if let Stage::Bad = stage {
+            return put_refusal(out, Cause::Text.number() as u64, self.line);
+        }
+        let count = self.count;
+        if Record::PACKETS < count {
+            return put_refusal(out, Cause::Packets.number() as u64, 0);
+        }
+        run(&slots[..count], &values[..count], out)
     }
 }

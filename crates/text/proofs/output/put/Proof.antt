@@ -61,7 +61,7 @@ returns : tie.Need-returns Inv-loop μ-loop
 returns c =
     let loop = c .before in
     let a = loop .before .args in
-    left-none (a .at) (a .text .now) (a .out .now) _ _ _ (drop-of-length-le (a .text .now) (c .loop-test .left)) (loop .loop .inv .1)
+    left-none (a .at) (a .text .now) (a .out .now) _ _ _ (drop-of-length-le (a .text .now) (c .loop-test .left)) (omega (arith, loop .loop .inv .1 .long)) (loop .loop .inv .1)
 
 pub put-spec : {M : Type 1} → statement M
 put-spec =

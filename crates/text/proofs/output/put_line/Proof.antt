@@ -4,7 +4,7 @@ use native.Mathlib.Omega.{arith}
 use borrow.Author.Needs.{needs}
 use lib.ListN.{length, drop, length-set}
 use Rattle.text.specs.Output.{lineWith}
-use Rattle.text.proofs.Writing.{Left, left-all, left-none, left-wrote, line-done, line-turn, line-end, number-fits, number-long}
+use Rattle.text.proofs.Writing.{Left, left-all, left-none, left-wrote, line-done, wrote-fits, line-turn, line-end, number-fits, number-long}
 use Rattle.text.proofs.output.put_line.Statement.{statement}
 use Rattle.text.proofs.output.put_line.Tie as tie
 use Rattle.text.proofs.output.put_line.Reads as reads
@@ -102,7 +102,7 @@ returns : tie.Need-returns Inv-loop μ-loop
 returns c =
     let loop = c .before .before .before .before .before .before in
     let a = c .before .before .before .before .before .before .before .before .before .args in
-    left-none (a .at) _ (a .out .now) _ _ _ refl
+    left-none (a .at) _ (a .out .now) _ _ _ refl (wrote-fits _ _ _ _ _ (c .before .before .put .ensures))
     (left-wrote (a .at) _ (a .out .now) (loop .loop .end) _ _ _ _ _ _ (line-done (a .numbers .now) (loop .loop .i) (c .before .before .before .before .before .loop-test .left)) (loop .loop .inv .2) (c .before .before .put .ensures))
 
 pub put-line-spec : {M : Type 1} → statement M

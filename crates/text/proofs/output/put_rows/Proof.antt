@@ -123,7 +123,7 @@ returns : tie.Need-returns Inv-loop μ-loop
 returns c =
     let loop = c .before in
     let a = c .before .before .before .before .before .before .before .before .args in
-    left-none (a .at) _ (a .out .now) _ _ _ (rows-done (a .slots .now) (a .values .now) (a .fates .now) (a .whens .now) (a .bys .now) (c .before .before .before .before .before .before .before .before .pre .0) (loop .loop .i) (c .loop-test .left)) (loop .loop .inv .2)
+    left-none (a .at) _ (a .out .now) _ _ _ (rows-done (a .slots .now) (a .values .now) (a .fates .now) (a .whens .now) (a .bys .now) (c .before .before .before .before .before .before .before .before .pre .0) (loop .loop .i) (c .loop-test .left)) (omega arith) (loop .loop .inv .2)
 
 pub put-rows-spec : {M : Type 1} → statement M
 put-rows-spec =
