@@ -68,12 +68,13 @@ unfolding outputBy
 blank-said slots values m h = ap (λ (l : List ℕ). saidOf slots values (pgCall slots values benchRoom benchBeta (lists l l l))) (zeros (length slots) m h)
 
 pub answered-none : (st : State) (out : List ℕ) → spoken st out ≡ [] → Answered st out 0 out
-answered-none st out none = record { count = rw none refl; written = rw none refl }
+answered-none st out none = record { inside = omega arith; count = rw none refl; written = rw none refl }
 
 pub answered : (st : State) (out : List ℕ) (text : List ℕ) (r : ℕ) (out′ : List ℕ) → spoken st out ≡ text → Wrote 0 text out r out′ → Answered st out r out′
 answered st out text r out′ e W =
     let n : r ≡ length text = omega (arith, W .behind) in
     record {
+      inside = omega (arith, W .inside, W .behind);
       count = n ∙ ap length (sym e);
       written =
           W .written

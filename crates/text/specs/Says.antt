@@ -1,6 +1,6 @@
 -- What the program says of a parser that has come to the end of its input: 21 at its bad line, 2 where more packets came than were kept, or what PG makes
 -- of those that were.
-use Prim.Native.Nat.{ℕ, _+_, _*_}
+use Prim.Native.Nat.{ℕ, _+_, _*_, _≤_}
 use mathlib.Core.Path.{_≡_}
 use mathlib.Core.Bool.{cond}
 use mathlib.Core.List.{List, [], _++_}
@@ -48,5 +48,6 @@ spoken st out =
 
 -- what is said stands at the start of the list, the rest of which is as before
 pub record Answered (st : State) (out : List ℕ) (r : ℕ) (out′ : List ℕ) : Type 0 where
+  pub inside : r ≤ length out
   pub count : r ≡ length (spoken st out)
   pub written : out′ ≡ spoken st out ++ drop r out
