@@ -28,12 +28,17 @@ fn read_piece(parser: Parser, slots: &mut [u32], values: &mut [u32]) -> Piece {
     Piece::Came(parser.feed(slots, values, &bytes[..n]), n)
 }
 
+// Writes the answer to a text that has been read to its end.
+fn write_answer(parser: Parser, slots: &mut [u32], values: &mut [u32], out: &mut [u8]) {
+    let last = parser.end(slots, values);
+    let n = last.answer(slots, values, out);
+    io::write_all(STDOUT_FILENO, &out[..n]);
+}
+
 // Answers a text that has been read to its end.
 fn answer(parser: Parser, slots: &mut [u32], values: &mut [u32]) {
     let mut out = [0u8; Parser::OUTPUT];
-    let last = parser.end(slots, values);
-    let n = last.answer(slots, values, &mut out);
-    io::write_all(STDOUT_FILENO, &out[..n]);
+    write_answer(parser, slots, values, &mut out);
 }
 
 fn main() {
@@ -50,6 +55,10 @@ fn main() {
             return;
         }
         parser = next;
-        left = if (n as u64) < left { left - n as u64 } else { 0 };
+        left = if (n as u64) < left {
+            left - n as u64
+        } else {
+            0
+        };
     }
 }
