@@ -4,3 +4,7 @@ pub mod Fields
 pub mod Input
 pub mod Output
 pub mod Bench
+pub mod Reading
+pub mod Says
+pub mod Whole
+pub mod Writing

@@ -1,0 +1,29 @@
+-- The program as a whole: a text that comes in any pieces is answered as the text, whatever was in the two lists before.
+use Prim.Native.Nat.{ℕ, _-_, _^_, _<_}
+use mathlib.Core.Path.{_≡_}
+use mathlib.Core.List.{List, [], _∷_, _++_}
+use lib.ListN.{length}
+use Rattle.model.specs.Limits.{recordLimits}
+use Rattle.text.specs.Bench.{benchOutput}
+use Rattle.text.specs.Reading.{State, state, startParser, afterAll, finished}
+use Rattle.text.specs.Says.{saysOf}
+
+-- the text that some pieces make
+unfoldable pub textOf : List (List ℕ) → List ℕ
+textOf [] = []
+textOf (piece ∷ pieces) = piece ++ textOf pieces
+
+-- a state after some pieces
+unfoldable pub fed : List (List ℕ) → State → State
+fed [] st = st
+fed (piece ∷ pieces) st = fed pieces (afterAll piece st)
+
+-- a line's number has 64 bits, so it counts the lines of a text of fewer bytes than this
+abbrev pub bytesLimit : ℕ
+bytesLimit = 2 ^ 64 - 2
+
+abbrev pub Whole : Type 0
+Whole =
+    (pieces : List (List ℕ)) (slots values : List ℕ)
+    → length slots ≡ recordLimits .packets → length values ≡ recordLimits .packets → length (textOf pieces) < bytesLimit
+    → saysOf (finished (fed pieces (state startParser slots values))) ≡ benchOutput (textOf pieces)
