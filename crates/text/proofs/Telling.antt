@@ -476,3 +476,28 @@ read-law (b ∷ bytes) n st sound =
     let one : Sound st (suc (length bytes + n)) = rw (suc-add (length bytes) n) at sound in
     let more = read-law bytes n (after b st) (sound-after st (length bytes + n) one b) in
     record { sound = more .sound; is = λ rest. more .is rest ∙ after-law st (suc (length bytes + n)) one b (bytes ++ rest) }
+
+-- the two lists keep their length to the end
+abbrev pub Long : State → Type 0
+Long st = (length (st .slots) ≡ recordLimits .packets) × (length (st .values) ≡ recordLimits .packets)
+
+long-ended : (st : State) (n : ℕ) → Sound st n → Long (lineEnded st)
+unfolding kept
+long-ended st n sound =
+    let long : Long st = (sound .slots, sound .values) in
+    ended-cases st (sound .field) Long
+    (λ is. long)
+    (λ e is. long)
+    (λ e s v is. (length-set (st .slots) (st .parser .count) s ∙ sound .slots, length-set (st .values) (st .parser .count) v ∙ sound .values))
+
+pub long-finished : (st : State) (n : ℕ) → Sound st n → Long (finished st)
+long-finished st n sound =
+    rw (finished-by st (st .parser .«after_cr») refl (atStart (st .parser)) refl) (go (st .parser .«after_cr») (atStart (st .parser)))
+  where
+    long : Long st
+    long = (sound .slots, sound .values)
+
+    go : (t u : Bool) → Long (finishedBy t u st)
+    go true u = long
+    go false true = cond-cases Long (eqb (st .parser .line) 1) _ _ (λ t. long-ended st n sound) (λ t. long)
+    go false false = long-ended st n sound
