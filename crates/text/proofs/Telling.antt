@@ -1,19 +1,17 @@
 -- A text read byte by byte is the text read line by line: what a state and the rest of the input come to does not change when one byte goes from the
 -- rest to what is read.
-use Prim.Native.Nat.{ℕ, zero, suc, min, _+_, _-_, _*_, _^_, _≤_, _<_}
+use Prim.Native.Nat.{ℕ, suc, min, _+_, _-_, _^_, _≤_, _<_}
 use mathlib.Core.Path.{_≡_, refl, sym, ap, ap₂, _∙_}
 use mathlib.Core.Bool.{Bool, true, false, cond, _&&_}
 use mathlib.Core.List.{List, [], _∷_, _++_, map, append-nil, append-assoc}
 use native.Mathlib.Nat.{zero-add, add-zero, suc-add}
-use native.Mathlib.Numerals.{add-one}
 use native.Mathlib.Omega.{arith}
-use lib.ListN.{length, take, set, length-set, length-replicate}
+use lib.ListN.{length, take, length-set, length-replicate}
 use lib.Seq.{take-suc-set}
-use lib.Dec.{leb, ltb, eqb}
-use borrow.Author.Tests.{lt-ltb, le-ltb, ltb-true, ltb-false, lt-leb, eq-eqb, ne-eqb, eqb-true, eqb-false}
+use lib.Dec.{ltb, eqb}
+use borrow.Author.Tests.{lt-ltb, ltb-true, ltb-false, lt-leb, eq-eqb, ne-eqb}
 use Rattle.model.specs.declared.Cause.the-variants.{Packets, Text}
 use Rattle.model.specs.Limits.{recordLimits}
-use Rattle.model.specs.Record.{blank}
 use Rattle.model.specs.Answers.{causeNumber}
 use Rattle.model.specs.Calls.{pgCall, runUnless}
 use Rattle.model.specs.Refusals.{pgRefusal}
@@ -24,17 +22,17 @@ use Rattle.text.specs.Lines.{cr, lf, unlessEmpty, linesOf}
 use Rattle.text.specs.Fields.{Line, bad, header, packet, lineOf, valueName}
 use Rattle.text.specs.Input.{Input, malformed, trace, withPacket, packetsFrom, inputBy, inputOf}
 use Rattle.text.specs.Output.{refusalText}
-use Rattle.text.specs.Bench.{saidOf, outputBy, benchOutput, benchRoom, benchBeta}
+use Rattle.text.specs.Bench.{outputBy, benchOutput}
 use Rattle.text.specs.Says.{keptSay, saysBy, saysOf}
 use Rattle.text.specs.declared.field.Stage.{Stage}
 use Rattle.text.specs.declared.field.Stage.the-variants.{Fresh, Bare, Open, Closed, Bad}
 use Rattle.text.specs.declared.field.Kind.{Kind}
 use Rattle.text.specs.declared.field.Kind.the-variants.{Neither, Name, Number}
 use Rattle.text.specs.declared.parser.Parser.{Parser}
-use Rattle.text.specs.Reading.{startParser, freshField, kindAt, spoiled, afterReturn, nextLine, inLine, atStartBy, atStart, State, state, inState, headerBy, kept, packetBy, lineEndedBy, lineEnded, after, afterBy, afterAll, finished, finishedBy}
+use Rattle.text.specs.Reading.{startParser, freshField, kindAt, spoiled, afterReturn, nextLine, inLine, atStartBy, atStart, State, state, inState, kept, lineEndedBy, lineEnded, after, afterBy, afterAll, finished, finishedBy}
 use Rattle.text.proofs.Parsing.{after-by, finished-by, line-ended-by}
 use Rattle.text.proofs.Fielding.{SoundField, fresh-sound, bad-sound}
-use Rattle.text.proofs.Lining.{joined, joined-neither, lineFrom, spoiled-line, ended-line, low-line, line-law, line-start, Within, within-line, false-true}
+use Rattle.text.proofs.Lining.{joined, lineFrom, spoiled-line, ended-line, low-line, line-law, line-start, within-line, false-true}
 
 -- a text has a line
 lines-some : (text : List ℕ) (G : List (List ℕ) → Type 0) → ((line : List ℕ) (more : List (List ℕ)) → G (line ∷ more)) → G (linesOf text)

@@ -2,11 +2,11 @@
 -- left.
 use Prim.Native.Nat.{ℕ}
 use mathlib.Core.Path.{_≡_, sym, ap, _∙_}
-use mathlib.Core.List.{List, [], _∷_, _++_}
+use mathlib.Core.List.{List, [], _∷_}
 use lib.ListN.{length, take, drop, length-append}
 use lib.Seq.{take-at}
 use Rattle.text.specs.Reading.{State, state, startParser, afterAll, finished}
-use Rattle.text.specs.Says.{saysOf, spoken, Answered}
+use Rattle.text.specs.Says.{saysOf, spoken}
 use Rattle.text.specs.Whole.{textOf, fed, Whole}
 use Rattle.text.proofs.Telling.{Sound, outputFrom, finished-law, start-law, sound-start, read-law, long-finished}
 use Rattle.text.proofs.Saying.{says-all}
