@@ -1,24 +1,21 @@
 -- A line read byte by byte is the line read as a whole: what a line that has been read so far and its rest make together does not change when one byte
 -- goes from the rest to what is read.
-use Prim.Native.Nat.{ℕ, zero, suc, _+_, _-_, _*_, _≤_, _<_}
-use mathlib.Core.Path.{_≡_, refl, sym, ap, ap₂, _∙_}
+use Prim.Native.Nat.{ℕ, zero, suc, _-_, _<_}
+use mathlib.Core.Path.{_≡_, refl, sym, ap, _∙_}
 use mathlib.Core.Bool.{Bool, true, false, cond, _&&_}
 use mathlib.Core.List.{List, [], _∷_}
 use native.Mathlib.Nat.{zero-add}
 use native.Mathlib.Omega.{arith}
-use lib.ListN.{length, getD}
-use lib.Dec.{leb, ltb, eqb}
-use borrow.Author.Tests.{eqb-true, lt-leb, eq-eqb, ne-eqb}
+use lib.ListN.{length}
+use borrow.Author.Tests.{lt-leb, ne-eqb}
 use Rattle.model.specs.Limits.{within}
 use Rattle.laws.proofs.Cases.{eqb-cases}
-use Rattle.text.specs.Lines.{cr}
 use Rattle.text.specs.Fields.{comma, same, allDigits, valueFrom, isNumber, slotName, valueName, heldIn, Parted, none, parted, before, atComma, Line, bad, header, packet, lineBy, fieldsOf, lineOf}
-use Rattle.text.specs.declared.field.Stage.the-variants.{Bad}
 use Rattle.text.specs.declared.field.Kind.{Kind}
 use Rattle.text.specs.declared.field.Kind.the-variants.{Neither, Name, Number}
 use Rattle.text.specs.declared.field.Field.{Field}
 use Rattle.text.specs.declared.parser.Parser.{Parser}
-use Rattle.text.specs.Reading.{freshField, badField, fieldAfter, kindAt, withField, spoiled, secondField, inFirst, inLineBy, inLine, atStartBy, atStart}
+use Rattle.text.specs.Reading.{freshField, badField, fieldAfter, kindAt, withField, spoiled, secondField, inFirst, inLineBy, inLine, atStart}
 use Rattle.text.proofs.Parsing.{in-line-by}
 use Rattle.text.proofs.Fielding.{and-false, SoundField, fresh-sound, bad-sound, kindAfter, fieldFrom, Lettered, field-law, field-sound, field-begun, kind-law, low-field, bad-from, fresh-from}
 
@@ -46,11 +43,6 @@ joined Name (Number v) = bad
 joined (Number s) Neither = bad
 joined (Number s) Name = bad
 joined (Number s) (Number v) = packet s v
-
-pub joined-neither : (first : Kind) → joined first Neither ≡ bad
-joined-neither Neither = refl
-joined-neither Name = refl
-joined-neither (Number s) = refl
 
 abbrev pub partedLine : Field → Parted → Line
 partedLine f none = bad

@@ -1,19 +1,17 @@
 -- A text read byte by byte is the text read line by line: what a state and the rest of the input come to does not change when one byte goes from the
 -- rest to what is read.
-use Prim.Native.Nat.{ℕ, zero, suc, min, _+_, _-_, _*_, _^_, _≤_, _<_}
+use Prim.Native.Nat.{ℕ, suc, min, _+_, _-_, _^_, _≤_, _<_}
 use mathlib.Core.Path.{_≡_, refl, sym, ap, ap₂, _∙_}
 use mathlib.Core.Bool.{Bool, true, false, cond, _&&_}
 use mathlib.Core.List.{List, [], _∷_, _++_, map, append-nil, append-assoc}
 use native.Mathlib.Nat.{zero-add, add-zero, suc-add}
-use native.Mathlib.Numerals.{add-one}
 use native.Mathlib.Omega.{arith}
-use lib.ListN.{length, take, set, length-set, length-replicate}
+use lib.ListN.{length, take, length-set, length-replicate}
 use lib.Seq.{take-suc-set}
-use lib.Dec.{leb, ltb, eqb}
-use borrow.Author.Tests.{lt-ltb, le-ltb, ltb-true, ltb-false, lt-leb, eq-eqb, ne-eqb, eqb-true, eqb-false}
+use lib.Dec.{ltb, eqb}
+use borrow.Author.Tests.{lt-ltb, ltb-true, ltb-false, lt-leb, eq-eqb, ne-eqb}
 use Rattle.model.specs.declared.Cause.the-variants.{Packets, Text}
 use Rattle.model.specs.Limits.{recordLimits}
-use Rattle.model.specs.Record.{blank}
 use Rattle.model.specs.Answers.{causeNumber}
 use Rattle.model.specs.Calls.{pgCall, runUnless}
 use Rattle.model.specs.Refusals.{pgRefusal}
@@ -24,17 +22,17 @@ use Rattle.text.specs.Lines.{cr, lf, unlessEmpty, linesOf}
 use Rattle.text.specs.Fields.{Line, bad, header, packet, lineOf, valueName}
 use Rattle.text.specs.Input.{Input, malformed, trace, withPacket, packetsFrom, inputBy, inputOf}
 use Rattle.text.specs.Output.{refusalText}
-use Rattle.text.specs.Bench.{saidOf, outputBy, benchOutput, benchRoom, benchBeta}
+use Rattle.text.specs.Bench.{outputBy, benchOutput}
 use Rattle.text.specs.Says.{keptSay, saysBy, saysOf}
 use Rattle.text.specs.declared.field.Stage.{Stage}
 use Rattle.text.specs.declared.field.Stage.the-variants.{Fresh, Bare, Open, Closed, Bad}
 use Rattle.text.specs.declared.field.Kind.{Kind}
 use Rattle.text.specs.declared.field.Kind.the-variants.{Neither, Name, Number}
 use Rattle.text.specs.declared.parser.Parser.{Parser}
-use Rattle.text.specs.Reading.{startParser, freshField, kindAt, spoiled, afterReturn, nextLine, inLine, atStartBy, atStart, State, state, inState, headerBy, kept, packetBy, lineEndedBy, lineEnded, after, afterBy, afterAll, finished, finishedBy}
+use Rattle.text.specs.Reading.{startParser, freshField, kindAt, spoiled, afterReturn, nextLine, inLine, atStartBy, atStart, State, state, inState, kept, lineEndedBy, lineEnded, after, afterBy, afterAll, finished, finishedBy}
 use Rattle.text.proofs.Parsing.{after-by, finished-by, line-ended-by}
 use Rattle.text.proofs.Fielding.{SoundField, fresh-sound, bad-sound}
-use Rattle.text.proofs.Lining.{joined, joined-neither, lineFrom, spoiled-line, ended-line, low-line, line-law, line-start, Within, within-line, false-true}
+use Rattle.text.proofs.Lining.{joined, lineFrom, spoiled-line, ended-line, low-line, line-law, line-start, within-line, false-true}
 
 -- a text has a line
 lines-some : (text : List ℕ) (G : List (List ℕ) → Type 0) → ((line : List ℕ) (more : List (List ℕ)) → G (line ∷ more)) → G (linesOf text)
@@ -476,3 +474,28 @@ read-law (b ∷ bytes) n st sound =
     let one : Sound st (suc (length bytes + n)) = rw (suc-add (length bytes) n) at sound in
     let more = read-law bytes n (after b st) (sound-after st (length bytes + n) one b) in
     record { sound = more .sound; is = λ rest. more .is rest ∙ after-law st (suc (length bytes + n)) one b (bytes ++ rest) }
+
+-- the two lists keep their length to the end
+abbrev pub Long : State → Type 0
+Long st = (length (st .slots) ≡ recordLimits .packets) × (length (st .values) ≡ recordLimits .packets)
+
+long-ended : (st : State) (n : ℕ) → Sound st n → Long (lineEnded st)
+unfolding kept
+long-ended st n sound =
+    let long : Long st = (sound .slots, sound .values) in
+    ended-cases st (sound .field) Long
+    (λ is. long)
+    (λ e is. long)
+    (λ e s v is. (length-set (st .slots) (st .parser .count) s ∙ sound .slots, length-set (st .values) (st .parser .count) v ∙ sound .values))
+
+pub long-finished : (st : State) (n : ℕ) → Sound st n → Long (finished st)
+long-finished st n sound =
+    rw (finished-by st (st .parser .«after_cr») refl (atStart (st .parser)) refl) (go (st .parser .«after_cr») (atStart (st .parser)))
+  where
+    long : Long st
+    long = (sound .slots, sound .values)
+
+    go : (t u : Bool) → Long (finishedBy t u st)
+    go true u = long
+    go false true = cond-cases Long (eqb (st .parser .line) 1) _ _ (λ t. long-ended st n sound) (λ t. long)
+    go false false = long-ended st n sound

@@ -1,13 +1,13 @@
 -- The parser: what each byte makes of it. A field is read against the name that the header would have in its place; a bad line is kept, whatever
 -- follows.
 use Prim.Native.Nat.{ℕ, min, _+_, _-_, _*_, _^_}
-use mathlib.Core.Bool.{Bool, true, false, cond, _&&_}
+use mathlib.Core.Bool.{Bool, true, false, cond}
 use mathlib.Core.List.{List, [], _∷_}
 use lib.ListN.{length, getD, set}
 use lib.Dec.{leb, ltb, eqb}
 use Rattle.model.specs.Limits.{recordLimits, within}
 use Rattle.text.specs.Lines.{cr, lf}
-use Rattle.text.specs.Fields.{comma, quote, slotName, valueName, Line, bad, header, packet}
+use Rattle.text.specs.Fields.{comma, quote, slotName, valueName}
 use Rattle.text.specs.declared.field.Stage.{Stage}
 use Rattle.text.specs.declared.field.Stage.the-variants.{Fresh, Bare, Open, Closed, Bad}
 use Rattle.text.specs.declared.field.Kind.{Kind}

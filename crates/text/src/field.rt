@@ -2,12 +2,9 @@
 ghost use mathlib.Core.Path.{_≡_};
 ghost use Prim.Native.Nat.{_≤_};
 ghost use Rattle.text.specs.Reading.{freshField, badField, staged, digitTaken, letterTaken, taken, fieldAfter, wholeKind, kindAt};
-
-const QUOTE: u8 = b'"';
-
-const ZERO: u8 = b'0';
-
-const NINE: u8 = b'9';
+use crate::code::NINE;
+use crate::code::QUOTE;
+use crate::code::ZERO;
 
 // The most digits of a number, and the least number that one digit more would make too long.
 const DIGITS: u32 = 7;

@@ -1,17 +1,13 @@
 // Writing the output: bytes, numbers, lines of numbers, and a record's rows, each from a place of a lent list on. The caller has seen that there is room.
 ghost use mathlib.Core.Path.{_≡_};
-ghost use mathlib.Core.List.{[], _∷_};
 ghost use Prim.Native.Nat.{_+_, _*_, _≤_};
 ghost use lib.ListN.{length};
 ghost use Rattle.model.specs.Packets.{arrivals};
 ghost use Rattle.model.specs.Record.{rowsOf};
-ghost use Rattle.text.specs.Lines.{cr, lf};
 ghost use Rattle.text.specs.Output.{decimal, lineWith, rowLines, refusalText};
 ghost use Rattle.text.specs.Writing.{Wrote, SameLengths};
-
-const COMMA: u8 = b',';
-
-const ZERO: u8 = b'0';
+use crate::code::COMMA;
+use crate::code::ZERO;
 
 // The most digits of a u64.
 const DIGITS: usize = 20;

@@ -4,6 +4,9 @@ ghost use mathlib.Core.Path.{_≡_};
 ghost use lib.ListN.{set};
 ghost use Rattle.text.specs.Says.{Answered};
 ghost use Rattle.text.specs.Reading.{startParser, withField, spoiled as spoiling, afterReturn, nextLine, secondField, inFirst, inLine, atStart, headerBy, packetBy, kept, lineEnded, after, afterAll, finished, state};
+use crate::code::COMMA;
+use crate::code::CR;
+use crate::code::LF;
 use crate::field::Field;
 use crate::field::Kind;
 use crate::field::Stage;
@@ -11,12 +14,6 @@ use crate::output::put_refusal;
 use crate::run::run;
 use model::Cause;
 use model::Record;
-
-const COMMA: u8 = b',';
-
-const CR: u8 = b'\r';
-
-const LF: u8 = b'\n';
 
 // The header's two names.
 const SLOT: [u8; 4] = *b"slot";
