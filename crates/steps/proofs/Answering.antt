@@ -117,7 +117,7 @@ module _ {S : Type 0} (P : Policy S) (s : S) (slots values : List ℕ) (lists : 
       ap₂ (λ (u : Totals) (l : Lists). outcome (Ran u) l) same e
 
 -- a refusal's number is not 0
-cause-refuses : (cause : Cause) → eqb (causeNumber cause) 0 ≡ false
+pub cause-refuses : (cause : Cause) → eqb (causeNumber cause) 0 ≡ false
 cause-refuses causes.Lengths = refl
 cause-refuses causes.Packets = refl
 cause-refuses causes.Room = refl

@@ -6,9 +6,7 @@ use mathlib.Core.List.{List, [], _∷_, _++_}
 use native.Mathlib.Omega.{arith}
 use lib.ListN.{length, take, drop, replicate}
 use lib.Seq.{sets-eq}
-use lib.Dec.{eqb}
 use borrow.Author.Tests.{eq-eqb, ne-eqb, le-ltb, lt-ltb}
-use Rattle.model.specs.declared.Cause.{Cause}
 use Rattle.model.specs.declared.Cause.the-variants as causes
 use Rattle.model.specs.declared.Refusal.{Refusal}
 use Rattle.model.specs.declared.Totals.{Totals}
@@ -21,6 +19,7 @@ use Rattle.model.specs.Answers.{causeNumber}
 use Rattle.model.specs.Calls.{Outcome, pgCall}
 use Rattle.steps.specs.Entry.{lists}
 use Rattle.steps.specs.Calls.{outcome}
+use Rattle.steps.proofs.Answering.{cause-refuses}
 use Rattle.text.specs.Input.{trace}
 use Rattle.text.specs.Output.{recordHeader, rowLines, refusalText}
 use Rattle.text.specs.Bench.{benchRoom, benchBeta, saidOf, outputBy}
@@ -29,18 +28,6 @@ use Rattle.text.specs.declared.field.Stage.the-variants.{Fresh, Bare, Op
 use Rattle.text.specs.Reading.{State}
 use Rattle.text.specs.Writing.{Wrote}
 use Rattle.text.specs.Says.{keptSay, saysBy, saysOf, outputLimit, spoken, Answered}
-
--- a refusal's number is not 0
-cause-refuses : (cause : Cause) → eqb (causeNumber cause) 0 ≡ false
-cause-refuses causes.Lengths = refl
-cause-refuses causes.Packets = refl
-cause-refuses causes.Room = refl
-cause-refuses causes.Parameters = refl
-cause-refuses causes.Slot = refl
-cause-refuses causes.Value = refl
-cause-refuses causes.Spent = refl
-cause-refuses causes.Unsound = refl
-cause-refuses causes.Text = refl
 
 module _ (slots values : List ℕ) (answer : RunAnswer) (after : Lists) (o : Outcome) (is : outcome answer after ≡ o) where
   pub refused-said : (f : Refusal) → answer ≡ Refused f → refusalText (causeNumber (f .cause)) (f .place) ≡ saidOf slots values o

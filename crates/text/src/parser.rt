@@ -14,6 +14,7 @@ use crate::output::put_refusal;
 use crate::run::run;
 use model::Cause;
 use model::Record;
+use steps::entry::put;
 
 // The header's two names.
 const SLOT: [u8; 4] = *b"slot";
@@ -28,15 +29,6 @@ pub struct Parser {
     after_cr: bool,
     line: u64,
     count: usize,
-}
-
-// The list with a number at a place; unchanged where it has no such place.
-fn put(list: &mut [u32], place: usize, number: u32)
-    ensures { λ _. ⌜ now (list .exit) ≡ set (now (list .entry)) place number ⌝ }
-{
-    if place < list.len() {
-        list[place] = number;
-    }
 }
 
 impl Parser {

@@ -10,7 +10,6 @@ use Rattle.text.proofs.parser.Parser.keep.Tie as tie
 use Rattle.text.proofs.parser.Parser.keep.Reads as reads
 use Rattle.text.proofs.parser.Parser.keep.Lts as lts
 use Rattle.text.proofs.parser.Parser.next_line.Reads as next-line-reads
-use Rattle.text.proofs.parser.put.Reads as put-reads
 
 -- src/parser.rt:158:9
 put-requires : tie.Need-put-requires
