@@ -297,7 +297,7 @@ fn other_length(source: &mut Source, n: usize) -> usize {
 
 /// What a case draws, one thing a line, for a reader.
 pub fn drawn(c: u64) -> String {
-    let case = make(c, &mut Source::of_case(c));
+    let Answered { case, by_hand, .. } = answer(c);
     let mut text = String::new();
     text += &format!("slots {:?}\n", case.slots);
     text += &format!("values {:?}\n", case.values);
@@ -312,6 +312,19 @@ pub fn drawn(c: u64) -> String {
         record.whens.len(),
         record.bys.len()
     );
+    if let Some(port) = by_hand {
+        text += &format!(
+            "port by hand: room {} num {} den {}",
+            port.room, port.num, port.den
+        );
+        text += &format!(" last {} held {}\n", port.last, port.held);
+        for place in 0..PLACES {
+            let (value, number) = (port.values[place], port.numbers[place]);
+            if value != 0 || number != 0 {
+                text += &format!("  place {place} value {value} number {number}\n");
+            }
+        }
+    }
     text
 }
 
