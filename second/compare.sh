@@ -1,5 +1,5 @@
 #!/usr/bin/env bash
-# Runs the second program on all cases and compares its sums with those of crate compare.
+# Runs the second program on all cases and compares its lines with those of crate compare. Where they differ it prints the first case that does.
 set -euo pipefail
 here=$(cd "$(dirname "${BASH_SOURCE[0]}")" && pwd)
 theirs=$here/../crates/compare/stdout
@@ -16,22 +16,28 @@ trap 'rm -f "$ours"' EXIT
 "$second" >"$ours"
 
 if cmp -s "$ours" "$theirs"; then
-  echo "second: $(wc -l <"$ours") batches, the same sums as crates/compare/stdout"
+  echo "second: $(wc -l <"$ours") batches, the same as in crates/compare/stdout"
   exit 0
 fi
 
-# The first line of either that is not the same in the other.
-line=$(awk 'NR == FNR { ours[FNR] = $0; n = FNR; next }
-  FNR > n || $0 != ours[FNR] { print FNR; found = 1; exit }
-  { m = FNR }
-  END { if (!found) print m + 1 }' "$ours" "$theirs")
-batch=$((line - 1))
+# The first batch whose lines differ, and in it the first pair of letters that does.
+case=$(awk -F, 'NR == FNR { ours[FNR] = $0; next }
+  $0 != ours[FNR] {
+    split(ours[FNR], own, ",")
+    i = 0
+    while (i < 49 && substr($2, 2 * i + 1, 2) == substr(own[2], 2 * i + 1, 2)) i++
+    print (FNR - 1) * 50 + i
+    found = 1
+    exit
+  }
+  END { if (!found) print FNR * 50 }' "$ours" "$theirs")
+line=$((case / 50 + 1))
 {
-  echo "second: the sums differ, first in batch $batch"
-  echo "  second:  $(sed -n "${line}p" "$ours")"
-  echo "  compare: $(sed -n "${line}p" "$theirs")"
-  echo "Its cases are $((batch * 50)) to $((batch * 50 + 49)); to print one, C, as second answers it:"
-  echo "  second/target/release/second C           every number said"
-  echo "  second/target/release/second --drawn C   its trace and parameters"
-} >&2
+  echo "second: the first case that differs is $case"
+  echo "second:  $(sed -n "${line}p" "$ours")"
+  echo "compare: $(sed -n "${line}p" "$theirs")"
+  echo "The case, and what second says of it:"
+  "$second" --drawn "$case"
+  "$second" "$case"
+} | cut -c 1-1000 >&2
 exit 1

@@ -1,6 +1,6 @@
 //! The random cases of CASES.md: the random source, what a case draws, what is called and said.
 
-use crate::port::{Arrival, EndOfSlot, Kind, Port};
+use crate::port::{Arrival, EndOfSlot, Kind, Port, PLACES};
 use crate::rules::{self, Record, Refusal, Totals, Verdict, SENT};
 
 pub const CASES: u64 = 20_000;
@@ -39,18 +39,38 @@ impl Source {
 // ---------------------------------------------------------------- the trace of a case
 
 pub struct Case {
-    n: usize,
-    slots: Vec<u64>,
-    values: Vec<u64>,
-    mf_values: Vec<u64>,
-    room: u64,
-    num: u64,
-    den: u64,
-    lo: u64,
-    hi: u64,
-    r: u64,
-    fates_longer: bool,
-    bys_longer: bool,
+    pub n: usize,
+    pub slots: Vec<u64>,
+    pub values: Vec<u64>,
+    pub mf_values: Vec<u64>,
+    pub room: u64,
+    pub num: u64,
+    pub den: u64,
+    pub lo: u64,
+    pub hi: u64,
+    pub r: u64,
+    pub lengths: Lengths,
+}
+
+/// How long the lists are that the calls are lent.
+pub struct Lengths {
+    pub slots: usize,
+    pub values: usize,
+    pub fates: usize,
+    pub whens: usize,
+    pub bys: usize,
+}
+
+impl Lengths {
+    fn all(n: usize) -> Lengths {
+        Lengths {
+            slots: n,
+            values: n,
+            fates: n,
+            whens: n,
+            bys: n,
+        }
+    }
 }
 
 /// Items 1 to 7 of "The trace of a case".
@@ -90,20 +110,26 @@ fn make(c: u64, source: &mut Source) -> Case {
         lo,
         hi,
         r,
-        fates_longer: false,
-        bys_longer: false,
+        lengths: Lengths::all(n),
     };
-    if c % 64 == 63 {
-        case.n = 2_049;
-        case.slots = vec![1; 2_049];
-        case.values = vec![1; 2_049];
-        case.mf_values = vec![lo; 2_049];
-    } else if c % 4 == 3 {
-        let times = 1 + source.draw(2);
+    if c % 4 == 3 {
+        let times = if c % 64 == 63 {
+            case.n = 2_049;
+            case.slots = vec![1; 2_049];
+            case.values = vec![1; 2_049];
+            case.mf_values = vec![lo; 2_049];
+            case.lengths = Lengths::all(2_049);
+            source.draw(2)
+        } else {
+            1 + source.draw(3)
+        };
         for _ in 0..times {
             spoil(source, &mut case);
         }
     }
+    case.slots.resize(case.lengths.slots, 1_000_000);
+    case.values.resize(case.lengths.values, 1);
+    case.mf_values.resize(case.lengths.values, 1);
     case
 }
 
@@ -204,25 +230,32 @@ fn gap(source: &mut Source, gaps: u64) -> u64 {
 
 /// One bad argument.
 fn spoil(source: &mut Source, case: &mut Case) {
-    match source.draw(14) {
+    match source.draw(20) {
         0 => case.room = 0,
         1 => case.room = 257,
         2 => case.room = U32_MAX,
-        3 => case.fates_longer = true,
-        4 => case.bys_longer = true,
-        5 => {
-            if case.values.len() == case.n {
-                case.values.push(1);
-                case.mf_values.push(1);
-            }
-        }
-        6 => case.num = 0,
-        7 => case.den = 0,
-        8 => case.num = case.den,
-        9 => case.num = 65_536,
-        10 => case.lo = case.hi,
-        11 => case.r = 256,
+        3 => case.lengths.slots = other_length(source, case.n),
+        4 => case.lengths.values = other_length(source, case.n),
+        5 => case.lengths.fates = other_length(source, case.n),
+        6 => case.lengths.whens = other_length(source, case.n),
+        7 => case.lengths.bys = other_length(source, case.n),
+        8 => case.num = 0,
+        9 => case.den = 0,
+        10 => case.num = case.den,
+        11 => case.num = 65_536,
         12 => {
+            case.num = 65_537;
+            case.den = 65_536;
+        }
+        13 => std::mem::swap(&mut case.num, &mut case.den),
+        14 => match source.draw(4) {
+            0 => case.lo = case.hi,
+            1 => case.lo = 0,
+            2 => case.hi = 65_536,
+            _ => std::mem::swap(&mut case.lo, &mut case.hi),
+        },
+        15 => case.r = 256,
+        16 => {
             if case.n > 0 {
                 let place = source.draw(case.n as u64) as usize;
                 case.slots[place] = match source.draw(3) {
@@ -232,7 +265,7 @@ fn spoil(source: &mut Source, case: &mut Case) {
                 };
             }
         }
-        _ => {
+        17 => {
             if case.n > 0 {
                 let place = source.draw(case.n as u64) as usize;
                 let value = if source.draw(2) == 0 { 0 } else { 65_536 };
@@ -240,12 +273,31 @@ fn spoil(source: &mut Source, case: &mut Case) {
                 case.mf_values[place] = value;
             }
         }
+        _ => {
+            if case.n > 0 {
+                let place = source.draw(case.n as u64) as usize;
+                case.mf_values[place] = match source.draw(4) {
+                    0 => case.hi + 1,
+                    1 => 65_535,
+                    2 => case.lo + 1,
+                    _ => case.lo.saturating_sub(1),
+                };
+            }
+        }
+    }
+}
+
+fn other_length(source: &mut Source, n: usize) -> usize {
+    if source.draw(2) == 0 {
+        n + 1
+    } else {
+        n.saturating_sub(1)
     }
 }
 
 /// What a case draws, one thing a line, for a reader.
 pub fn drawn(c: u64) -> String {
-    let case = make(c, &mut Source::of_case(c));
+    let Answered { case, by_hand, .. } = answer(c);
     let mut text = String::new();
     text += &format!("slots {:?}\n", case.slots);
     text += &format!("values {:?}\n", case.values);
@@ -260,6 +312,19 @@ pub fn drawn(c: u64) -> String {
         record.whens.len(),
         record.bys.len()
     );
+    if let Some(port) = by_hand {
+        text += &format!(
+            "port by hand: room {} num {} den {}",
+            port.room, port.num, port.den
+        );
+        text += &format!(" last {} held {}\n", port.last, port.held);
+        for place in 0..PLACES {
+            let (value, number) = (port.values[place], port.numbers[place]);
+            if value != 0 || number != 0 {
+                text += &format!("  place {place} value {value} number {number}\n");
+            }
+        }
+    }
     text
 }
 
@@ -273,6 +338,17 @@ pub struct Call {
 
 /// All calls of a case, in order.
 pub fn calls(c: u64) -> Vec<Call> {
+    answer(c).calls
+}
+
+/// A case with all that was said of it, and the port made by hand, where there was one.
+pub struct Answered {
+    pub case: Case,
+    pub by_hand: Option<Port>,
+    pub calls: Vec<Call>,
+}
+
+pub fn answer(c: u64) -> Answered {
     let mut source = Source::of_case(c);
     let case = make(c, &mut source);
     let mut calls = Vec::new();
@@ -306,7 +382,7 @@ pub fn calls(c: u64) -> Vec<Call> {
     calls.push(said_policy("plan", answer, &record));
     calls.push(case.said_audit("audit of plan", &case.values, case.room, &record));
 
-    if case.n >= 1 && case.n <= 2_048 && c % 4 != 3 {
+    if case.n >= 1 && c % 4 != 3 {
         for _ in 0..3 {
             let mut record = pg_record.clone();
             let damages = source.draw(3) + 1;
@@ -321,23 +397,26 @@ pub fn calls(c: u64) -> Vec<Call> {
     if c % 4 != 1 {
         feed_port(&case, &mut calls);
     }
-    calls
+    let mut by_hand = None;
+    if c % 4 != 3 {
+        let port = port_by_hand(&mut source, &case);
+        by_hand = Some(port.clone());
+        call_port(&mut source, port, &mut calls);
+    }
+    Answered {
+        case,
+        by_hand,
+        calls,
+    }
 }
 
 impl Case {
-    fn fresh_record(&self) -> Record {
-        let mut record = Record {
-            fates: vec![7; self.n],
-            whens: vec![7; self.n],
-            bys: vec![7; self.n],
-        };
-        if self.fates_longer {
-            record.fates.push(7);
+    pub fn fresh_record(&self) -> Record {
+        Record {
+            fates: vec![7; self.lengths.fates],
+            whens: vec![7; self.lengths.whens],
+            bys: vec![7; self.lengths.bys],
         }
-        if self.bys_longer {
-            record.bys.push(7);
-        }
-        record
     }
 
     fn said_audit(&self, what: &str, values: &[u64], room: u64, record: &Record) -> Call {
@@ -430,7 +509,9 @@ fn feed_port(case: &Case, calls: &mut Vec<Call>) {
 
     let mut now = 1;
     for i in 0..case.n.min(PORT_PACKETS) {
-        while now < case.slots[i] {
+        let slot = case.slots.get(i).copied().unwrap_or(0);
+        let value = case.values.get(i).copied().unwrap_or(0);
+        while now < slot {
             let (after, answer) = port.end_of_slot();
             port = after;
             calls.push(said_end_of_slot(answer));
@@ -439,8 +520,8 @@ fn feed_port(case: &Case, calls: &mut Vec<Call>) {
                 EndOfSlot::Idle | EndOfSlot::Refused(_) => break,
             }
         }
-        now = case.slots[i];
-        let (after, answer) = port.arrival(case.values[i]);
+        now = slot;
+        let (after, answer) = port.arrival(value);
         port = after;
         calls.push(said_arrival(answer));
     }
@@ -452,6 +533,163 @@ fn feed_port(case: &Case, calls: &mut Vec<Call>) {
             EndOfSlot::Sent { .. } => {}
             EndOfSlot::Idle | EndOfSlot::Refused(_) => break,
         }
+    }
+    calls.push(said_port(&port));
+}
+
+/// A port made by hand, spoilt or not.
+fn port_by_hand(source: &mut Source, case: &Case) -> Port {
+    let mut port = Port {
+        room: case.room,
+        num: case.num,
+        den: case.den,
+        ..Port::zero()
+    };
+    port.held = match source.draw(4) {
+        0 => 0,
+        1 => port.room,
+        _ => source.draw(port.room + 1),
+    };
+    let mut x = if source.draw(2) == 0 {
+        4_294_966_000
+    } else {
+        0
+    };
+    for place in 0..port.held as usize {
+        x += 1 + source.draw(3);
+        port.numbers[place] = x;
+        port.values[place] = 1 + source.draw(9);
+    }
+    port.last = match source.draw(4) {
+        0 => x,
+        1 => x + source.draw(10),
+        2 => U32_MAX - 1,
+        _ => U32_MAX,
+    };
+    if source.draw(2) == 1 {
+        let times = 1 + source.draw(2);
+        for _ in 0..times {
+            spoil_port(source, &mut port);
+        }
+    }
+    port
+}
+
+/// One thing wrong with a port, or, now and then, nothing.
+fn spoil_port(source: &mut Source, port: &mut Port) {
+    let places = PLACES as u64;
+    let u = port.held.min(places);
+    match source.draw(24) {
+        0 => port.room = 0,
+        1 => port.room = 257,
+        2 => port.room = U32_MAX,
+        3 => {
+            if u > 1 {
+                port.room = u - 1;
+            }
+        }
+        4 => port.held = 257,
+        5 => port.held = U32_MAX,
+        6 => {
+            if port.held < places {
+                port.held += 1;
+            }
+        }
+        7 => {
+            if port.held > 0 {
+                port.held -= 1;
+            }
+        }
+        8 => port.num = 0,
+        9 => port.den = 0,
+        10 => port.num = port.den,
+        11 => port.num = 65_536,
+        12 => {
+            port.num = 65_537;
+            port.den = 65_536;
+        }
+        13 => std::mem::swap(&mut port.num, &mut port.den),
+        kind @ 14..=16 => {
+            if u > 0 {
+                let place = source.draw(u) as usize;
+                port.values[place] = match kind {
+                    14 => 0,
+                    15 => 65_536,
+                    _ => U32_MAX,
+                };
+            }
+        }
+        17 => {
+            if u > 0 {
+                port.numbers[source.draw(u) as usize] = 0;
+            }
+        }
+        18 => {
+            if u > 1 {
+                let j = 1 + source.draw(u - 1) as usize;
+                port.numbers[j] = port.numbers[j - 1];
+            }
+        }
+        19 => {
+            if u > 1 {
+                let j = 1 + source.draw(u - 1) as usize;
+                port.numbers.swap(j, j - 1);
+            }
+        }
+        20 => {
+            if u > 0 {
+                port.last = port.numbers[u as usize - 1].saturating_sub(1);
+            }
+        }
+        21 => port.last = 0,
+        22 => {
+            if u < places {
+                port.values[(u + source.draw(places - u)) as usize] = 1;
+            }
+        }
+        _ => {
+            if u < places {
+                port.numbers[(u + source.draw(places - u)) as usize] = 1;
+            }
+        }
+    }
+}
+
+/// An arrival, an end of slot, an arrival, and after each the port it handed back.
+fn call_port(source: &mut Source, port: Port, calls: &mut Vec<Call>) {
+    let (port, answer) = port.arrival(live_value(source));
+    calls.push(by_hand(said_arrival(answer)));
+    calls.push(by_hand(said_port(&port)));
+    let (port, answer) = port.end_of_slot();
+    calls.push(by_hand(said_end_of_slot(answer)));
+    calls.push(by_hand(said_port(&port)));
+    let (port, answer) = port.arrival(live_value(source));
+    calls.push(by_hand(said_arrival(answer)));
+    calls.push(by_hand(said_port(&port)));
+}
+
+fn by_hand(call: Call) -> Call {
+    Call {
+        what: format!("{} by hand", call.what),
+        numbers: call.numbers,
+    }
+}
+
+fn live_value(source: &mut Source) -> u64 {
+    match source.draw(8) {
+        0 => 0,
+        1 => 65_536,
+        _ => 1 + source.draw(20),
+    }
+}
+
+fn said_port(port: &Port) -> Call {
+    let mut numbers = vec![port.room, port.num, port.den, port.last, port.held];
+    numbers.extend(&port.values);
+    numbers.extend(&port.numbers);
+    Call {
+        what: "port".to_string(),
+        numbers,
     }
 }
 
@@ -488,8 +726,9 @@ fn said_end_of_slot(answer: EndOfSlot) -> Call {
 
 // ---------------------------------------------------------------- what is written
 
-/// The running sum over all numbers said in a batch of cases.
-pub fn sum_of_batch(batch: u64) -> u64 {
+/// A batch's line: its number, two letters for each case, the running sum over all numbers said.
+pub fn line_of_batch(batch: u64) -> String {
+    let mut letters = String::new();
     let mut h = 1;
     for c in batch * BATCH..(batch + 1) * BATCH {
         for call in calls(c) {
@@ -497,8 +736,14 @@ pub fn sum_of_batch(batch: u64) -> u64 {
                 h = (h * 1_000_003 + x + 1) % 2_147_483_647;
             }
         }
+        letters.push(letter(h));
+        letters.push(letter(h / 26));
     }
-    h
+    format!("{batch},{letters},{h}")
+}
+
+fn letter(x: u64) -> char {
+    char::from(b'a' + (x % 26) as u8)
 }
 
 #[cfg(test)]
@@ -530,7 +775,7 @@ mod tests {
         }
         assert_eq!((calls[0].numbers.len(), h), (33, 1_048_457_815));
         let numbers: usize = calls.iter().map(|call| call.numbers.len()).sum();
-        assert_eq!(numbers, 299);
+        assert_eq!(numbers, 2_382);
     }
 
     /// The port's sent packets and losses are those of PG on the same trace.
@@ -547,7 +792,7 @@ mod tests {
             let mut said = Vec::new();
             feed_port(&case, &mut said);
             let mut fates = vec![0; case.n];
-            for call in &said[1..] {
+            for call in &said[1..said.len() - 1] {
                 let x = &call.numbers;
                 match x[0] {
                     0 => {}

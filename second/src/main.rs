@@ -10,15 +10,20 @@
 
 mod byhand;
 mod cases;
+mod kinds;
+mod one;
 mod port;
 mod rules;
 
 use std::io::{self, BufWriter, Write};
 use std::process::ExitCode;
 
-const USAGE: &str = "usage: second                  the sums of all batches
+const USAGE: &str = "usage: second                  a line for each batch of cases: letters and sum
        second C                every number of case C
        second --drawn C        the trace and parameters of case C
+       second --run CALL ROOM PARAMETERS SLOTS VALUES [RECORD]
+                               one call on one trace: what it says and its totals
+       second --kinds [N]      how often each kind of case comes, of all or of the first N
        second --check-by-hand  the scope's numbers to check by hand";
 
 fn main() -> ExitCode {
@@ -30,6 +35,15 @@ fn main() -> ExitCode {
     let written = match words[..] {
         [] => write_sums(),
         ["--check-by-hand"] => return check_by_hand(),
+        ["--kinds"] => return write_kinds(cases::CASES),
+        ["--kinds", n] => match n.parse::<u32>() {
+            Ok(n) => return write_kinds(u64::from(n)),
+            Err(_) => return usage(),
+        },
+        ["--run", ref rest @ ..] => match one::run(rest) {
+            Some(text) => write_text(&text),
+            None => return usage(),
+        },
         ["--drawn", c] => match c.parse::<u32>() {
             Ok(c) => write_text(&cases::drawn(u64::from(c))),
             Err(_) => return usage(),
@@ -60,7 +74,7 @@ fn write_text(text: &str) -> io::Result<()> {
 fn write_sums() -> io::Result<()> {
     let mut out = io::stdout().lock();
     for batch in 0..cases::CASES / cases::BATCH {
-        writeln!(out, "{},{}", batch, cases::sum_of_batch(batch))?;
+        writeln!(out, "{}", cases::line_of_batch(batch))?;
     }
     out.flush()
 }
@@ -75,6 +89,23 @@ fn write_case(c: u64) -> io::Result<()> {
         writeln!(out)?;
     }
     out.flush()
+}
+
+/// Fails where a kind does not come at all.
+fn write_kinds(cases: u64) -> ExitCode {
+    let mut text = String::new();
+    let mut missing = 0;
+    for (kind, count) in kinds::count(cases) {
+        text += &format!("{count} {kind}\n");
+        if count == 0 {
+            missing += 1;
+        }
+    }
+    if write_text(&text).is_ok() && missing == 0 {
+        ExitCode::SUCCESS
+    } else {
+        ExitCode::FAILURE
+    }
 }
 
 fn check_by_hand() -> ExitCode {

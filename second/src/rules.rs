@@ -104,7 +104,7 @@ fn refuse_if(cause: bool, number: u64, place: u64) -> Result<(), Refusal> {
 }
 
 /// 1: "two lists differ in length, record lists included".
-fn refuse_1(slots: &[u64], values: &[u64], record: &Record) -> Result<(), Refusal> {
+pub fn refuse_1(slots: &[u64], values: &[u64], record: &Record) -> Result<(), Refusal> {
     let n = slots.len();
     let differ = values.len() != n
         || record.fates.len() != n
@@ -114,7 +114,7 @@ fn refuse_1(slots: &[u64], values: &[u64], record: &Record) -> Result<(), Refusa
 }
 
 /// 2: "more than 2,048 packets".
-fn refuse_2(slots: &[u64]) -> Result<(), Refusal> {
+pub fn refuse_2(slots: &[u64]) -> Result<(), Refusal> {
     refuse_if(slots.len() > MAX_PACKETS, 2, 0)
 }
 
@@ -131,7 +131,7 @@ pub fn refuse_4_beta(num: u64, den: u64) -> Result<(), Refusal> {
 }
 
 /// 4: "MF's lo, hi, r, out of range": "values with lo < hi; r 0 to 255".
-fn refuse_4_mf(lo: u64, hi: u64, r: u64) -> Result<(), Refusal> {
+pub fn refuse_4_mf(lo: u64, hi: u64, r: u64) -> Result<(), Refusal> {
     let bad = value_bad(lo) || value_bad(hi) || lo >= hi || r > MAX_R;
     refuse_if(bad, 4, 0)
 }

@@ -9,6 +9,7 @@ use crate::cases::Case;
 use crate::cases::PLACES;
 use crate::cases::draw_case;
 use crate::draw::source_of;
+use crate::hand::say_hand;
 use crate::live::say_port;
 
 // The three policies, each with the audit of what it left.
@@ -43,6 +44,12 @@ fn say_policies(
     );
 }
 
+// The port that is fed the case's packets, and the one that is made by hand.
+fn say_ports(sum: &mut u64, source: &mut u64, c: u32, case: Case, slots: &[u32], values: &[u32]) {
+    say_port(sum, c, case, slots, values);
+    say_hand(sum, source, c, case);
+}
+
 // Calls and says all that case number c asks, in order, on its own lists.
 fn say_calls(
     sum: &mut u64,
@@ -60,12 +67,12 @@ fn say_calls(
     say_policies(sum, case, slots, values, mf_values, fates, whens, bys);
     say_call(sum, Call::Plan, slots, values, room, fates, whens, bys);
     say_damages(sum, source, c, case, slots, values, fates, whens, bys);
-    say_port(sum, c, case, slots, values);
+    say_ports(sum, source, c, case, slots, values);
 }
 
 // The length of a list, at most that of the array that holds it.
 fn length_of(n: u32) -> usize
-    ensures { λ r. ⌜ r ≤ 2_049 ⌝ }
+    ensures { λ r. ⌜ r ≤ 2_050 ⌝ }
 {
     if n < PLACES {
         n as usize
@@ -92,20 +99,21 @@ pub fn say_case(sum: &mut u64, c: u32) {
     let mut fates = [0u32; PLACES as usize];
     let mut whens = [0u32; PLACES as usize];
     let mut bys = [0u32; PLACES as usize];
-    let n = length_of(case.n);
-    let m = length_of(case.values);
+    let s = length_of(case.slots);
+    let v = length_of(case.values);
     let f = length_of(case.fates);
+    let w = length_of(case.whens);
     let b = length_of(case.bys);
     say_calls(
         sum,
         &mut source,
         c,
         case,
-        &slots[..n],
-        &values[..m],
-        &mf_values[..m],
+        &slots[..s],
+        &values[..v],
+        &mf_values[..v],
         &mut fates[..f],
-        &mut whens[..n],
+        &mut whens[..w],
         &mut bys[..b],
     );
 }

@@ -5,7 +5,7 @@ use crate::lists::more;
 use crate::lists::put;
 use model::Beta;
 
-// The numbers of a case. The lists of slots and of whens have n entries; the other lengths are fields, since bad arguments make a list one longer.
+// The numbers of a case. The length of each list is a field, since bad arguments make a list one longer or one shorter than n.
 pub struct Case {
     pub n: u32,
     pub room: usize,
@@ -14,8 +14,10 @@ pub struct Case {
     pub lo: u32,
     pub hi: u32,
     pub r: usize,
+    pub slots: u32,
     pub values: u32,
     pub fates: u32,
+    pub whens: u32,
     pub bys: u32,
 }
 
@@ -36,8 +38,8 @@ struct Values {
     b: u32,
 }
 
-// One more than a trace may have.
-pub const PLACES: u32 = 2_049;
+// Two more than a trace may have: a list of one packet too many that is one longer still.
+pub const PLACES: u32 = 2_050;
 
 const LAST_SLOT: u32 = 1_000_000;
 
@@ -198,8 +200,10 @@ pub fn draw_case(
         lo,
         hi,
         r,
+        slots: n,
         values: n,
         fates: n,
+        whens: n,
         bys: n,
     }
 }

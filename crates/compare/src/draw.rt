@@ -26,3 +26,12 @@ pub fn draw(source: &mut u64, k: u32) -> u32
     step(source);
     (*source % k as u64) as u32
 }
+
+// A number from 0 to most.
+pub fn draw_to(source: &mut u64, most: u32) -> u32 {
+    if most < u32::MAX {
+        draw(source, most + 1)
+    } else {
+        most
+    }
+}

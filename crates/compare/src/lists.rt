@@ -41,3 +41,12 @@ pub fn more(a: u32, b: u32) -> u32
 pub fn less(a: u32, b: u32) -> u32 {
     if b <= a { a - b } else { 0 }
 }
+
+// A number, or the greatest u32 where it is above that.
+pub fn narrow(a: usize) -> u32 {
+    if a <= u32::MAX as usize {
+        a as u32
+    } else {
+        u32::MAX
+    }
+}

@@ -5,10 +5,11 @@ use crate::lists::less;
 use crate::said::say_arrival;
 use crate::said::say_making;
 use crate::said::say_slot;
+use crate::said::say_whole;
 use model::SlotAnswer;
 use port::Port;
 
-const FED: usize = 300;
+const FED: u32 = 300;
 
 // Ends of slot, each said, until one is idle or refused, and no more than this many.
 fn end_slots(sum: &mut u64, port: Port, most: u32) -> Port {
@@ -36,7 +37,7 @@ fn take(sum: &mut u64, port: Port, now: u32, slot: u32, value: u32) -> Port {
 }
 
 // Feeds a port the first n packets, and then ends slots until one is idle or refused: no port holds more than Port::ROOM packets to send.
-fn feed(sum: &mut u64, port: Port, n: usize, slots: &[u32], values: &[u32]) {
+fn feed(sum: &mut u64, port: Port, n: usize, slots: &[u32], values: &[u32]) -> Port {
     let mut left = port;
     let mut now = 1;
     let mut i = 0;
@@ -46,7 +47,7 @@ fn feed(sum: &mut u64, port: Port, n: usize, slots: &[u32], values: &[u32]) {
         now = slot;
         i += 1;
     }
-    end_slots(sum, left, Port::ROOM as u32 + 1);
+    end_slots(sum, left, Port::ROOM as u32 + 1)
 }
 
 // Makes a port and feeds it, where c mod 4 is not 1.
@@ -58,6 +59,8 @@ pub fn say_port(sum: &mut u64, c: u32, case: Case, slots: &[u32], values: &[u32]
     let answer = made.answer;
     say_making(sum, answer);
     let port = made.port;
-    let n = slots.len();
-    feed(sum, port, if n < FED { n } else { FED }, slots, values);
+    let n = case.n;
+    let fed = if n < FED { n } else { FED } as usize;
+    let left = feed(sum, port, fed, slots, values);
+    say_whole(sum, left);
 }

@@ -5,6 +5,7 @@ mod calls;
 mod cases;
 mod damage;
 mod draw;
+mod hand;
 mod lists;
 mod live;
 mod said;
@@ -16,20 +17,33 @@ const BATCHES: u16 = 400;
 
 const CASES: u32 = 50;
 
-// The running sum of a batch's cases.
-fn sum_of(batch: u16) -> u64 {
+fn letter(x: u64) -> u8 {
+    b'a' + (x % 26) as u8
+}
+
+// Two letters of a sum, which lead from a difference in a batch to its case.
+fn write_letters(sum: u64) {
+    let letters = [letter(sum), letter(sum / 26)];
+    io::write_all(STDOUT_FILENO, &letters);
+}
+
+// Answers a batch's cases, and writes the letters of each. Gives their sum.
+fn answer(batch: u16) -> u64 {
     let mut sum: u64 = 1;
     let mut i = 0;
     while i < CASES {
         say_case(&mut sum, batch as u32 * CASES + i);
+        write_letters(sum);
         i += 1;
     }
     sum
 }
 
 // A batch's line.
-fn write_line(batch: u16, sum: u64) {
+fn write_line(batch: u16) {
     io::print_decimal(STDOUT_FILENO, batch as u64);
+    io::write_all(STDOUT_FILENO, b",");
+    let sum = answer(batch);
     io::write_all(STDOUT_FILENO, b",");
     io::print_decimal(STDOUT_FILENO, sum);
     io::write_all(STDOUT_FILENO, b"\n");
@@ -38,7 +52,7 @@ fn write_line(batch: u16, sum: u64) {
 fn main() {
     let mut batch = 0;
     while batch < BATCHES {
-        write_line(batch, sum_of(batch));
+        write_line(batch);
         batch += 1;
     }
 }

@@ -1,5 +1,6 @@
 // What is said of each call: its numbers go into the running sum, one after another.
 use crate::lists::get;
+use crate::lists::narrow;
 use model::ArrivalAnswer;
 use model::AuditAnswer;
 use model::LossKind;
@@ -11,6 +12,7 @@ use model::RunAnswer;
 use model::SlotAnswer;
 use model::Tally;
 use model::Totals;
+use port::Port;
 
 const MODULUS: u64 = 2_147_483_647;
 
@@ -142,4 +144,19 @@ pub fn say_slot(sum: &mut u64, answer: SlotAnswer) {
             say_live(sum, number_of(refusal), 0, no_packet());
         }
     }
+}
+
+// A port, whole.
+pub fn say_whole(sum: &mut u64, port: Port) {
+    let beta = port.beta;
+    let last = port.last;
+    let values = port.values;
+    let numbers = port.numbers;
+    say(sum, narrow(port.room));
+    say(sum, beta.num);
+    say(sum, beta.den);
+    say(sum, last.0);
+    say(sum, narrow(port.held));
+    say_list(sum, &values);
+    say_list(sum, &numbers);
 }

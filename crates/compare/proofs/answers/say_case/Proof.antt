@@ -44,6 +44,9 @@ length-of-requires-3 c κs = search needs
 length-of-requires-4 : tie.Need-length-of-requires-4
 length-of-requires-4 c κs = search needs
 
+length-of-requires-5 : tie.Need-length-of-requires-5
+length-of-requires-5 c κs = search needs
+
 array-share-prefix-slots : tie.Need-array-share-prefix-slots
 array-share-prefix-slots c = search needs
 
@@ -103,6 +106,7 @@ say-case-spec =
     length-of-requires-2
     length-of-requires-3
     length-of-requires-4
+    length-of-requires-5
     array-share-prefix-slots
     slice-aggregate-say-calls
     array-share-prefix-values

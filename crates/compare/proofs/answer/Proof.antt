@@ -1,8 +1,8 @@
--- `compare::sum_of` is safe and ends: nothing has to hold from turn to turn, and 50 - i falls.
+-- `compare::answer` is safe and ends: nothing has to hold from turn to turn, and 50 - i falls.
 use borrow.Author.Needs.{needs}
 use Prim.Native.Nat.{_-_}
-use Rattle.compare.proofs.sum_of.Statement.{statement}
-use Rattle.compare.proofs.sum_of.Tie as tie
+use Rattle.compare.proofs.answer.Statement.{statement}
+use Rattle.compare.proofs.answer.Tie as tie
 
 abbrev Inv-loop : tie.InvT-loop
 Inv-loop batch sum₀ i₀ sum i = Unit {0}
@@ -22,6 +22,9 @@ add-say-case c = search needs
 say-case-requires : tie.Need-say-case-requires Inv-loop μ-loop
 say-case-requires c κs = search needs
 
+write-letters-requires : tie.Need-write-letters-requires Inv-loop μ-loop
+write-letters-requires c κs = search needs
+
 add-i : tie.Need-add-i Inv-loop μ-loop
 add-i c = search needs
 
@@ -34,8 +37,8 @@ loop-again c = search needs
 returns : tie.Need-returns Inv-loop μ-loop
 returns c = search needs
 
-pub sum-of-spec : {M : Type 1} → statement M
-sum-of-spec =
+pub answer-spec : {M : Type 1} → statement M
+answer-spec =
     tie.close
     (tie.spec
     Inv-loop
@@ -44,6 +47,7 @@ sum-of-spec =
     mul-say-case
     add-say-case
     say-case-requires
+    write-letters-requires
     add-i
     loop-less
     loop-again
