@@ -1,7 +1,7 @@
 -- A trace that the test accepts is one on which MF can run.
 use Prim.Native.Nat.{ℕ, _≤_}
 use mathlib.Core.Path.{_≡_, sym, ap}
-use mathlib.Core.List.{List, []}
+use mathlib.Core.List.{List}
 use mathlib.Core.Bool.{_||_}
 use lib.ListN.{length}
 use lib.Dec.{eqb}

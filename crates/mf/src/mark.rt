@@ -2,7 +2,6 @@
 ghost use mathlib.Core.Path.{_≡_};
 ghost use mathlib.Core.Bool.{not, _&&_};
 ghost use Prim.Native.Nat.{min, _+_, _-_, _≤_};
-ghost use lib.ListN.{getD};
 ghost use lib.Dec.{eqb};
 ghost use Rattle.model.specs.Packets.{slotOf};
 ghost use Rattle.model.specs.Policies.MF.{markOf, isMarked, markDown, marksAfter};

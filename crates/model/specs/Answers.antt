@@ -6,7 +6,6 @@ use Rattle.model.specs.declared.Packet.{Packet}
 use Rattle.model.specs.declared.Totals.{Totals}
 use Rattle.model.specs.declared.Cause.{Cause}
 use Rattle.model.specs.declared.Cause.the-variants as causes
-use Rattle.model.specs.declared.Refusal.{Refusal}
 use Rattle.model.specs.declared.Fault.{Fault}
 use Rattle.model.specs.declared.Fault.the-variants as faults
 use Rattle.model.specs.declared.Fate.the-variants as fates
@@ -23,7 +22,6 @@ use Rattle.model.specs.declared.MakingAnswer.the-variants as making
 use Rattle.model.specs.Packets.{nobody}
 use Rattle.model.specs.Record.{fateNumber, lossFate}
 use Rattle.model.specs.Totals.{noTotals}
-use Rattle.model.specs.Rules.{Verdict}
 
 -- the number of each refusal
 abbrev pub causeNumber : Cause → ℕ

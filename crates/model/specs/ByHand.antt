@@ -6,7 +6,6 @@ use mathlib.Core.List.{List, [], _∷_, map}
 use lib.ListN.{length, replicate}
 use Rattle.model.specs.declared.Beta.{Beta}
 use Rattle.model.specs.declared.Tally.{Tally}
-use Rattle.model.specs.declared.Totals.{Totals}
 use Rattle.model.specs.Limits.{within}
 use Rattle.model.specs.Packets.{arrivalsFrom}
 use Rattle.model.specs.Record.{Lists, entered, rowsOf}
@@ -18,7 +17,6 @@ use Rattle.model.specs.Policies.Plan.{insert, byFallingValue, fitsFrom, 
 use Rattle.model.specs.Rules.{hasFate, countOf, fateOutside, byWrong, whenWrong, notAfterLast, notLater, isHeldAt, overRoom, orElse, faultAt, firstFaultFrom}
 use Rattle.model.specs.Totals.{valueOf, mostHeldFrom, nothing, noTotals}
 use Rattle.model.specs.Refusals.{packetRefusalFrom, plainRefusal, pgRefusal, mfRefusal}
-use Rattle.model.specs.Answers.{Reply}
 use Rattle.model.specs.Calls.{Outcome, runUnless, greedyCall, pgCall, mfCall, planCall, auditCall}
 
 -- a call: its slots, its values, its room and its own parameters

@@ -2,13 +2,13 @@
 use Prim.Native.Nat.{ℕ, zero, suc, _+_, _-_}
 use mathlib.Core.Bool.{Bool, true, cond, _&&_}
 use mathlib.Core.List.{List, [], _∷_, _++_, map}
-use lib.ListN.{length, getD, take, drop, replicate}
+use lib.ListN.{length, take, drop, replicate}
 use lib.Dec.{leb, ltb, eqb}
 use Rattle.model.specs.declared.PacketNumber.{PacketNumber}
 use Rattle.model.specs.declared.Packet.{Packet}
 use Rattle.model.specs.declared.Beta.{Beta}
 use Rattle.model.specs.declared.Fate.the-variants as fates
-use Rattle.model.specs.Limits.{portLimits, within}
+use Rattle.model.specs.Limits.{portLimits}
 use Rattle.model.specs.Packets.{nobody, valuesOf}
 use Rattle.model.specs.Record.{fateNumber, lossFate}
 use Rattle.model.specs.Course.{Decision, held, rejected, losing}

@@ -1,8 +1,8 @@
 -- 01, 'The buffer's rules, and the audit'. A record obeys the rules when no packet has one of these faults. The audit takes packets in number order and
 -- at each tests in this order; the first fault is the answer, with the packet's number. Of the rows before one, `older`, the newest stands first.
-use Prim.Native.Nat.{ℕ, zero, suc, _+_}
+use Prim.Native.Nat.{ℕ, suc, _+_}
 use mathlib.Core.Path.{_≡_}
-use mathlib.Core.Bool.{Bool, true, false, cond, not, _&&_, _||_}
+use mathlib.Core.Bool.{Bool, false, cond, not, _&&_, _||_}
 use mathlib.Core.List.{List, [], _∷_}
 use lib.ListN.{length}
 use lib.Dec.{leb, ltb, eqb}

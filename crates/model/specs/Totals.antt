@@ -5,7 +5,6 @@ use mathlib.Core.Bool.{Bool, true, cond}
 use mathlib.Core.List.{List, [], _∷_}
 use Rattle.model.specs.declared.Tally.{Tally}
 use Rattle.model.specs.declared.Totals.{Totals}
-use Rattle.model.specs.declared.Fate.{Fate}
 use Rattle.model.specs.declared.Fate.the-variants.{Sent, Rejected, PushedOut, Preempted, Flushed}
 use Rattle.model.specs.Record.{Row}
 use Rattle.model.specs.Rules.{hasFate, countOf, heldAfter}

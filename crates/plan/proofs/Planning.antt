@@ -1,9 +1,9 @@
 -- Why the plan's run is the run of its rule: a packet is held or rejected as its entry in the kept list says, and that list is the plan's.
-use Prim.Native.Nat.{ℕ, zero, suc, _≤_}
+use Prim.Native.Nat.{ℕ}
 use mathlib.Core.Path.{_≡_, refl, sym, ap, subst, _∙_}
-use mathlib.Core.List.{List, [], _∷_}
+use mathlib.Core.List.{List, []}
 use native.Mathlib.Omega.{arith}
-use lib.ListN.{length, getD, take, replicate, length-replicate}
+use lib.ListN.{length, getD, replicate, length-replicate}
 use borrow.Author.Tests.{ne-eqb}
 use Rattle.model.specs.declared.Packet.{Packet}
 use Rattle.model.specs.Packets.{placeOf, arrivals}

@@ -1,5 +1,4 @@
 // The run of a rule over an accepted trace.
-ghost use mathlib.Core.Path.{_≡_};
 ghost use mathlib.Core.List.{[]};
 ghost use Rattle.model.specs.Course.{byRule};
 ghost use Rattle.queue.specs.Choose.{ruleOf};

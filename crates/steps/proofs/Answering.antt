@@ -1,5 +1,5 @@
 -- A call's answer: the totals counted from the fates are the totals of the record's rows, and a refusal or a run is what model's call says of the verdict.
-use Prim.Native.Nat.{ℕ, suc, _+_, _≤_}
+use Prim.Native.Nat.{ℕ, suc, _+_}
 use mathlib.Core.Path.{_≡_, refl, sym, ap, ap₂, subst, _∙_}
 use mathlib.Core.Bool.{Bool, true, false, cond}
 use mathlib.Core.List.{List, [], _∷_}
@@ -18,7 +18,7 @@ use Rattle.model.specs.Packets.{arrivalsFrom, arrivals}
 use Rattle.model.specs.Record.{Entry, Lists, entered, recordOf, rowsOf, rows, fateNumber}
 use Rattle.model.specs.Rules.{Verdict, clear, hasFate, countOf}
 use Rattle.model.specs.Totals.{valueOf, tally, totalsOf}
-use Rattle.model.specs.Course.{Policy, byRule, course, first}
+use Rattle.model.specs.Course.{Policy, course, first}
 use Rattle.model.specs.Refusals.{valueOk}
 use Rattle.model.specs.Answers.{causeNumber}
 use Rattle.model.specs.Calls.{Outcome, ran, runUnless}

@@ -1,7 +1,7 @@
 -- What a window of two lists holds.
-use Prim.Native.Nat.{ℕ, _+_, _-_, _≤_, _<_}
+use Prim.Native.Nat.{ℕ, _-_, _≤_, _<_}
 use mathlib.Core.Path.{_≡_}
-use mathlib.Core.List.{List, [], _∷_, _++_}
+use mathlib.Core.List.{List, [], _∷_}
 use lib.ListN.{length, take, drop}
 use Rattle.model.specs.declared.Packet.{Packet}
 use Rattle.model.specs.declared.SlotAnswer.{SlotAnswer}

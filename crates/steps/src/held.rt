@@ -1,7 +1,7 @@
 // What is done to a window that lies within its two lists.
 ghost use mathlib.Core.Path.{_≡_};
 ghost use mathlib.Core.List.{[], _∷_, _++_};
-ghost use Prim.Native.Nat.{_+_, _-_, _≤_, _<_};
+ghost use Prim.Native.Nat.{_+_, _-_, _<_};
 ghost use lib.ListN.{length};
 ghost use Rattle.model.specs.Policies.Greedy.{without};
 ghost use Rattle.steps.specs.Window.{windowOf, Within, Opened, Holds, oldestOf};

@@ -1,8 +1,6 @@
 // What a slot brings to a window that lies within its two lists: arrivals, and the sendings at the ends of slots.
-ghost use mathlib.Core.Path.{_≡_};
-ghost use Prim.Native.Nat.{_+_, _-_, _≤_, _<_, _^_};
+ghost use Prim.Native.Nat.{_+_, _-_, _<_};
 ghost use lib.ListN.{length};
-ghost use Rattle.model.specs.Record.{entered};
 ghost use Rattle.queue.specs.Choose.{ruleOf, applied};
 ghost use Rattle.steps.specs.Entry.{lists};
 ghost use Rattle.steps.specs.Window.{windowOf, Within};

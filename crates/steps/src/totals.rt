@@ -3,7 +3,7 @@ ghost use mathlib.Core.Path.{_≡_};
 ghost use Rattle.model.specs.Record.{fateNumber};
 ghost use Rattle.model.specs.Totals.{noTotals};
 ghost use Rattle.steps.specs.Totals.{CountedOrNone};
-ghost use lib.ListN.{length, getD};
+ghost use lib.ListN.{getD};
 use model::Fate;
 use model::Record;
 use model::Tally;

@@ -1,6 +1,6 @@
 -- A line read byte by byte is the line read as a whole: what a line that has been read so far and its rest make together does not change when one byte
 -- goes from the rest to what is read.
-use Prim.Native.Nat.{ℕ, zero, suc, _-_, _<_}
+use Prim.Native.Nat.{ℕ, zero, suc, _<_}
 use mathlib.Core.Path.{_≡_, refl, sym, ap, _∙_}
 use mathlib.Core.Bool.{Bool, true, false, cond, _&&_}
 use mathlib.Core.List.{List, [], _∷_}

@@ -1,10 +1,10 @@
 -- A line of two fields, each of which may be quoted: the header `slot,value`, or two numbers of 1 to 7 digits. Nothing that a field may hold is a comma
 -- or a quote, so the first comma parts the fields, and a quote is only the first or the last byte of one.
-use Prim.Native.Nat.{ℕ, zero, suc, _+_, _-_, _*_}
+use Prim.Native.Nat.{ℕ, _+_, _-_, _*_}
 use mathlib.Core.Bool.{Bool, true, false, cond, _&&_}
-use mathlib.Core.List.{List, [], _∷_, _++_}
+use mathlib.Core.List.{List, [], _∷_}
 use lib.ListN.{length}
-use lib.Dec.{leb, eqb}
+use lib.Dec.{eqb}
 use Rattle.model.specs.Limits.{within}
 
 abbrev pub comma : ℕ

@@ -1,6 +1,6 @@
 -- Lines end at each CRLF, inside quotes too; the last line's end is optional. A byte is its number.
 use Prim.Native.Nat.{ℕ}
-use mathlib.Core.Bool.{Bool, cond, _&&_}
+use mathlib.Core.Bool.{cond, _&&_}
 use mathlib.Core.List.{List, [], _∷_}
 use lib.Dec.{eqb}
 

@@ -1,5 +1,4 @@
 // Writing the output: bytes, numbers, lines of numbers, and a record's rows, each from a place of a lent list on. The caller has seen that there is room.
-ghost use mathlib.Core.Path.{_≡_};
 ghost use Prim.Native.Nat.{_+_, _*_, _≤_};
 ghost use lib.ListN.{length};
 ghost use Rattle.model.specs.Packets.{arrivals};

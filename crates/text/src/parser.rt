@@ -1,7 +1,6 @@
 // The parser of the bench program's input: a value that a byte turns into the next. It keeps at most Record::PACKETS packets, in two lent lists, beside
 // a count that stops at one more; a bad line, once found, is kept, whatever follows.
 ghost use mathlib.Core.Path.{_≡_};
-ghost use lib.ListN.{set};
 ghost use Rattle.text.specs.Says.{Answered};
 ghost use Rattle.text.specs.Reading.{startParser, withField, spoiled as spoiling, afterReturn, nextLine, secondField, inFirst, inLine, atStart, headerBy, packetBy, kept, lineEnded, after, afterAll, finished, state};
 use crate::code::COMMA;

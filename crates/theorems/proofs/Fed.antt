@@ -3,10 +3,9 @@
 use Prim.Native.Nat.{ℕ, zero, suc, _+_, _≤_, _<_}
 use native.Mathlib.Omega.{arith}
 use mathlib.Core.Path.{_≡_, refl, sym, ap, ap₂, subst, _∙_}
-use mathlib.Core.Bool.{Bool, true, false}
+use mathlib.Core.Bool.{true}
 use mathlib.Core.List.{List, [], _∷_, _++_}
 use lib.ListN.{length, getD}
-use lib.Dec.{eqb}
 use borrow.Author.Tests.{lt-ltb}
 use Rattle.model.specs.declared.Slot.{Slot}
 use Rattle.model.specs.declared.Packet.{Packet}
@@ -17,7 +16,7 @@ use Rattle.model.specs.declared.LossKind.the-variants.{PushedOut, Preempted}
 use Rattle.model.specs.Limits.{portLimits}
 use Rattle.model.specs.Packets.{Arrival, arrivalsFrom, slotsUntil, following}
 use Rattle.model.specs.Record.{Entry, Lists, fateNumber, lossFate, sentAt, lostTo}
-use Rattle.model.specs.Course.{Step, Decision, Decided, held, rejected, losing, entriesOf, andThen, byRule, slotEnds, course, first}
+use Rattle.model.specs.Course.{Step, Decision, Decided, held, rejected, losing, entriesOf, byRule, slotEnds, course, first}
 use Rattle.model.specs.Policies.PG.{pgRule}
 use Rattle.model.specs.Refusals.{valueOk, roomOk, betaOk, lengthsRefusal, packetsRefusal, roomRefusal, betaRefusal, pgRefusal, arrivalRefusal}
 use Rattle.model.specs.Rules.{orElse}

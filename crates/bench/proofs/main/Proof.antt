@@ -4,11 +4,6 @@ use lib.ListN.{length}
 use Rattle.model.specs.Limits.{recordLimits}
 use Rattle.bench.proofs.main.Statement.{statement}
 use Rattle.bench.proofs.main.Tie as tie
-use Rattle.bench.proofs.main.Reads as reads
-use Rattle.bench.proofs.main.Lts as lts
-use Rattle.bench.proofs.answer.Reads as answer-reads
-use Rattle.bench.proofs.read_piece.Reads as read-piece-reads
-use Rattle.text.proofs.parser.Parser.new.Reads as new-reads
 
 abbrev Inv-loop : tie.InvT-loop
 Inv-loop slots₀ values₀ parser₀ left₀ slots values parser left = (length slots ≡ recordLimits .packets) × (length values ≡ recordLimits .packets)
@@ -16,79 +11,61 @@ Inv-loop slots₀ values₀ parser₀ left₀ slots values parser left = (length
 abbrev μ-loop : tie.MeasureT-loop
 μ-loop slots₀ values₀ parser₀ left₀ slots values parser left = left
 
--- src/main.rt:47:9
 new-requires : tie.Need-new-requires Inv-loop μ-loop
 new-requires c κs = search needs
 
--- src/main.rt:49:5
 loop-holds : tie.Need-loop-holds Inv-loop μ-loop
 loop-holds c = (refl, refl)
 
--- src/main.rt:50:55
 slice-aggregate-read-piece : tie.Need-slice-aggregate-read-piece Inv-loop μ-loop
 slice-aggregate-read-piece c = search needs
 
--- src/main.rt:50:67
 slice-aggregate-read-piece-2 : tie.Need-slice-aggregate-read-piece-2 Inv-loop μ-loop
 slice-aggregate-read-piece-2 c = search needs
 
--- src/main.rt:50:36
 read-piece-requires : tie.Need-read-piece-requires Inv-loop μ-loop
 read-piece-requires c κs = search needs
 
--- src/main.rt:50:25
 enum-known-next : tie.Need-enum-known-next Inv-loop μ-loop
 enum-known-next c = search needs
 
--- src/main.rt:51:13
 enum-told : tie.Need-enum-told Inv-loop μ-loop
 enum-told c = search needs
 
--- src/main.rt:51:13
 returns : tie.Need-returns Inv-loop μ-loop
 returns c = tt
 
--- src/main.rt:54:26
 slice-aggregate-answer : tie.Need-slice-aggregate-answer Inv-loop μ-loop
 slice-aggregate-answer c = search needs
 
--- src/main.rt:54:38
 slice-aggregate-answer-2 : tie.Need-slice-aggregate-answer-2 Inv-loop μ-loop
 slice-aggregate-answer-2 c = search needs
 
--- src/main.rt:54:13
 answer-requires : tie.Need-answer-requires Inv-loop μ-loop
 answer-requires c κs = search needs
 
--- src/main.rt:55:13
 returns-2 : tie.Need-returns-2 Inv-loop μ-loop
 returns-2 c = tt
 
--- src/main.rt:58:39
 sub-left : tie.Need-sub-left Inv-loop μ-loop
 sub-left c = search needs
 
--- src/main.rt:49:5
 loop-less : tie.Need-loop-less Inv-loop μ-loop
 loop-less c = search needs
 
--- src/main.rt:49:5
 loop-again : tie.Need-loop-again Inv-loop μ-loop
 loop-again c =
     let piece = c .before .before .before .before .before .before .before .read-piece in
     (piece .kept .1 .0 ∙ c .before .before .before .before .before .before .before .before .before .before .before .loop .inv .0, piece .kept .1 .1 .0 ∙ c .before .before .before .before .before .before .before .before .before .before .before .loop .inv .1)
 
--- src/main.rt:49:5
 loop-less-2 : tie.Need-loop-less-2 Inv-loop μ-loop
 loop-less-2 c = search needs
 
--- src/main.rt:49:5
 loop-again-2 : tie.Need-loop-again-2 Inv-loop μ-loop
 loop-again-2 c =
     let piece = c .before .before .before .before .before .before .before .read-piece in
     (piece .kept .1 .0 ∙ c .before .before .before .before .before .before .before .before .before .before .before .loop .inv .0, piece .kept .1 .1 .0 ∙ c .before .before .before .before .before .before .before .before .before .before .before .loop .inv .1)
 
--- src/main.rt:44:1
 returns-3 : tie.Need-returns-3 Inv-loop μ-loop
 returns-3 c = tt
 

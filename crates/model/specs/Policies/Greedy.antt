@@ -1,6 +1,6 @@
 -- Plain greedy. If there is room, hold the arrival. If not, of the held packets and the arrival the one of lowest value is lost; among equals the
 -- newest. The arrival itself is then rejected, another is pushed out and the arrival held.
-use Prim.Native.Nat.{ℕ, zero, suc}
+use Prim.Native.Nat.{ℕ, suc}
 use mathlib.Core.Bool.{Bool, true, cond, _&&_}
 use mathlib.Core.List.{List, [], _∷_, _++_}
 use lib.ListN.{length, getD, take, drop}

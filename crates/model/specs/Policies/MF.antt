@@ -3,16 +3,16 @@
 -- starting at the position before it and stepping down one place each time, marked or not. Marks last. Then, if the head has mark m, every held packet
 -- with a mark at most m is flushed, once; then the head is sent. r = 0 is plain greedy.
 use Prim.Native.Nat.{ℕ, zero, suc, _-_}
-use mathlib.Core.Bool.{Bool, false, true, cond, not, _&&_}
+use mathlib.Core.Bool.{Bool, cond, not, _&&_}
 use mathlib.Core.List.{List, [], _∷_, _++_}
 use lib.ListN.{length, getD, set, take, replicate}
 use lib.Dec.{leb, eqb}
 use Rattle.model.specs.declared.PacketNumber.{PacketNumber}
 use Rattle.model.specs.declared.Slot.{Slot}
 use Rattle.model.specs.declared.Packet.{Packet}
-use Rattle.model.specs.Packets.{Arrival, arrivals, placeOf, slotOf}
+use Rattle.model.specs.Packets.{arrivals, placeOf, slotOf}
 use Rattle.model.specs.Record.{Entry, flushedAt}
-use Rattle.model.specs.Course.{Step, Policy, andThen, byRule, sendOldest, course, first}
+use Rattle.model.specs.Course.{Step, Policy, byRule, sendOldest, course, first}
 use Rattle.model.specs.Policies.Greedy.{greedyRule}
 
 -- MF's parameters

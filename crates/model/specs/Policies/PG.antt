@@ -1,6 +1,6 @@
 -- PG (document 001). First, going from the oldest held packet, the first p with value(p) x num <= value(arrival) x den is preempted, at most one.
 -- Then as plain greedy. Where one was preempted there is room, so plain greedy holds the arrival.
-use Prim.Native.Nat.{ℕ, zero, suc, _*_}
+use Prim.Native.Nat.{ℕ, suc, _*_}
 use mathlib.Core.Bool.{cond}
 use mathlib.Core.List.{List, [], _∷_, _++_}
 use lib.ListN.{length, getD}

@@ -7,7 +7,7 @@ use borrow.Author.Needs.{needs}
 use lib.ListN.{length}
 use Rattle.queue.specs.Choose.{ruleOf}
 use Rattle.steps.specs.Entry.{lists}
-use Rattle.steps.proofs.Running.{Going, going-start, going-free, most-fits, going-turn, going-end}
+use Rattle.steps.proofs.Running.{Going, going-start, going-turn, going-end}
 use Rattle.runs.proofs.run.run.Statement.{statement}
 use Rattle.runs.proofs.run.run.Tie as tie
 

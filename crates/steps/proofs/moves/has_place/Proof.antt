@@ -1,5 +1,5 @@
 -- The window lies within its lists, so its end is not before its start.
-use mathlib.Core.Path.{refl, sym, _∙_}
+use mathlib.Core.Path.{sym, _∙_}
 use borrow.Author.Tests.{not-true, not-false}
 use native.Mathlib.Omega.{arith}
 use Rattle.steps.proofs.Guarding.{lies-within}

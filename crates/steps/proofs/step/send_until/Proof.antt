@@ -1,11 +1,11 @@
 use Prim.Native.Nat.{_-_}
-use mathlib.Core.Path.{_≡_, refl, sym, _∙_}
+use mathlib.Core.Path.{_≡_, sym, _∙_}
 use mathlib.Core.Logic.{⊎-elim}
 use native.Mathlib.Omega.{arith}
 use borrow.Author.Needs.{needs}
 use lib.ListN.{length}
 use Rattle.steps.specs.Entry.{lists}
-use Rattle.steps.proofs.Sending.{Left, left-all, left-none, left-idle, left-turn}
+use Rattle.steps.proofs.Sending.{Left, left-none, left-idle, left-turn}
 use Rattle.steps.proofs.step.send_until.Statement.{statement}
 use Rattle.steps.proofs.step.send_until.Tie as tie
 

@@ -5,8 +5,6 @@ use lib.ListN.{length, drop, drop-of-length-le}
 use Rattle.text.proofs.Writing.{Left, left-none, put-start, put-turn}
 use Rattle.text.proofs.output.put.Statement.{statement}
 use Rattle.text.proofs.output.put.Tie as tie
-use Rattle.text.proofs.output.put.Reads as reads
-use Rattle.text.proofs.output.put.Lts as lts
 
 abbrev Inv-loop : tie.InvT-loop
 Inv-loop out₀ at text i₀ out i =
@@ -15,48 +13,38 @@ Inv-loop out₀ at text i₀ out i =
 abbrev μ-loop : tie.MeasureT-loop
 μ-loop out₀ at text i₀ out i = length text - i
 
--- src/output.rt:29:5
 loop-holds : tie.Need-loop-holds Inv-loop μ-loop
 loop-holds c =
     let a = c .args in
     (omega arith, put-start (a .at) (a .text .now) (a .out .now))
 
--- src/output.rt:30:23
 shared-slice-read-out : tie.Need-shared-slice-read-out Inv-loop μ-loop
 shared-slice-read-out c = search needs
 
--- src/output.rt:30:13
 add-out : tie.Need-add-out Inv-loop μ-loop
 add-out c = omega arith
 
--- src/output.rt:30:9
 slice-write-out : tie.Need-slice-write-out Inv-loop μ-loop
 slice-write-out c = omega (arith, c .before .before .loop .inv .1 .long)
 
--- src/output.rt:31:9
 add-i : tie.Need-add-i Inv-loop μ-loop
 add-i c = search needs
 
--- src/output.rt:29:5
 loop-less : tie.Need-loop-less Inv-loop μ-loop
 loop-less c = search needs
 
--- src/output.rt:29:5
 loop-again : tie.Need-loop-again Inv-loop μ-loop
 loop-again c =
     let loop = c .before .before in
     let a = loop .before .args in
     (omega arith, put-turn (a .at) (a .text .now) (a .out .now) (loop .loop .i) (omega arith) _ (loop .loop .inv .1))
 
--- src/output.rt:33:5
 add-result : tie.Need-add-result Inv-loop μ-loop
 add-result c = omega arith
 
--- src/output.rt:24:1
 same-length : tie.Need-same-length Inv-loop μ-loop
 same-length c = c .before .loop .inv .1 .long
 
--- src/output.rt:24:1
 returns : tie.Need-returns Inv-loop μ-loop
 returns c =
     let loop = c .before in

@@ -7,10 +7,6 @@ use Rattle.text.specs.Output.{lineWith}
 use Rattle.text.proofs.Writing.{Left, left-all, left-none, left-wrote, line-done, wrote-fits, line-turn, line-end, number-fits, number-long}
 use Rattle.text.proofs.output.put_line.Statement.{statement}
 use Rattle.text.proofs.output.put_line.Tie as tie
-use Rattle.text.proofs.output.put_line.Reads as reads
-use Rattle.text.proofs.output.put_line.Lts as lts
-use Rattle.text.proofs.output.put.Reads as put-reads
-use Rattle.text.proofs.output.put_number.Reads as put-number-reads
 
 abbrev Inv-loop : tie.InvT-loop
 Inv-loop out₀ at numbers end₀ i₀ t6 out end i =
@@ -21,47 +17,38 @@ Inv-loop out₀ at numbers end₀ i₀ t6 out end i =
 abbrev μ-loop : tie.MeasureT-loop
 μ-loop out₀ at numbers end₀ i₀ t6 out end i = length numbers - i
 
--- src/output.rt:62:5
 loop-holds : tie.Need-loop-holds Inv-loop μ-loop
 loop-holds c =
     let a = c .before .before .args in
     (omega arith, omega arith, left-all (a .at) _ (a .out .now))
 
--- src/output.rt:63:36
 mul-put-number : tie.Need-mul-put-number Inv-loop μ-loop
 mul-put-number c = search needs
 
--- src/output.rt:63:36
 shared-slice-read-put-number : tie.Need-shared-slice-read-put-number Inv-loop μ-loop
 shared-slice-read-put-number c = search needs
 
--- src/output.rt:63:9
 put-number-requires : tie.Need-put-number-requires Inv-loop μ-loop
 put-number-requires c κs = omega arith
 
--- src/output.rt:64:9
 add-i : tie.Need-add-i Inv-loop μ-loop
 add-i c = search needs
 
--- src/output.rt:66:13
 slice-write-out : tie.Need-slice-write-out Inv-loop μ-loop
 slice-write-out c =
     let loop = c .before .before .before .before .before .before .before in
     let a = c .before .before .before .before .before .before .before .before .before .before .args in
     omega (arith, number-fits (a .at) (a .numbers .now) (a .out .now) (loop .loop .end) _ (loop .loop .i) (loop .loop .inv .2) _ _ (c .before .before .before .put-number .ensures), number-long (a .at) (a .numbers .now) (a .out .now) (loop .loop .end) _ (loop .loop .i) (loop .loop .inv .2) _ _ (c .before .before .before .put-number .ensures))
 
--- src/output.rt:67:13
 add-end : tie.Need-add-end Inv-loop μ-loop
 add-end c =
     let loop = c .before .before .before .before .before .before .before in
     let a = c .before .before .before .before .before .before .before .before .before .before .args in
     omega (arith, number-fits (a .at) (a .numbers .now) (a .out .now) (loop .loop .end) _ (loop .loop .i) (loop .loop .inv .2) _ _ (c .before .before .before .put-number .ensures), number-long (a .at) (a .numbers .now) (a .out .now) (loop .loop .end) _ (loop .loop .i) (loop .loop .inv .2) _ _ (c .before .before .before .put-number .ensures))
 
--- src/output.rt:62:5
 loop-less : tie.Need-loop-less Inv-loop μ-loop
 loop-less c = search needs
 
--- src/output.rt:62:5
 loop-again : tie.Need-loop-again Inv-loop μ-loop
 loop-again c =
     let loop = c .before .before .before .before .before .before .before in
@@ -71,11 +58,9 @@ loop-again c =
       line-turn (a .at) (a .numbers .now) (a .out .now) (loop .loop .end) _ (loop .loop .i) (loop .loop .inv .2) _ _ (c .before .before .before .put-number .ensures) (c .if1 .taken),
     )
 
--- src/output.rt:62:5
 loop-less-2 : tie.Need-loop-less-2 Inv-loop μ-loop
 loop-less-2 c = search needs
 
--- src/output.rt:62:5
 loop-again-2 : tie.Need-loop-again-2 Inv-loop μ-loop
 loop-again-2 c =
     let loop = c .before .before .before .before .before .before .before in
@@ -85,19 +70,15 @@ loop-again-2 c =
       line-end (a .at) (a .numbers .now) (a .out .now) (loop .loop .end) _ (loop .loop .i) (loop .loop .inv .2) _ _ (c .before .before .before .put-number .ensures) (omega arith) (c .if1 .left),
     )
 
--- src/output.rt:70:19
 slice-aggregate-put : tie.Need-slice-aggregate-put Inv-loop μ-loop
 slice-aggregate-put c = search needs
 
--- src/output.rt:70:5
 put-requires : tie.Need-put-requires Inv-loop μ-loop
 put-requires c κs = omega arith
 
--- src/output.rt:56:1
 same-length : tie.Need-same-length Inv-loop μ-loop
 same-length c = c .before .before .put .kept .0 ∙ c .before .before .before .before .before .before .loop .inv .2 .long
 
--- src/output.rt:56:1
 returns : tie.Need-returns Inv-loop μ-loop
 returns c =
     let loop = c .before .before .before .before .before .before in

@@ -2,32 +2,22 @@ use Rattle.text.proofs.Writing.{wrote-both}
 use borrow.Author.Needs.{needs}
 use Rattle.text.proofs.output.put_refusal.Statement.{statement}
 use Rattle.text.proofs.output.put_refusal.Tie as tie
-use Rattle.text.proofs.output.put_refusal.Reads as reads
-use Rattle.text.proofs.output.put_refusal.Lts as lts
-use Rattle.text.proofs.output.put.Reads as put-reads
-use Rattle.text.proofs.output.put_line.Reads as put-line-reads
 
--- src/output.rt:78:26
 slice-aggregate-put : tie.Need-slice-aggregate-put
 slice-aggregate-put c = search needs
 
--- src/output.rt:78:9
 put-requires : tie.Need-put-requires
 put-requires c κs = search needs
 
--- src/output.rt:79:23
 slice-aggregate-put-line : tie.Need-slice-aggregate-put-line
 slice-aggregate-put-line c = search needs
 
--- src/output.rt:79:5
 put-line-requires : tie.Need-put-line-requires
 put-line-requires c κs = search needs
 
--- src/output.rt:74:1
 same-length : tie.Need-same-length
 same-length c = search needs
 
--- src/output.rt:74:1
 returns : tie.Need-returns
 returns c = wrote-both (c .before .before .before .before .before .before .before .put .ensures) (c .before .before .put-line .ensures)
 

@@ -5,9 +5,6 @@ use lib.ListN.{length}
 use Rattle.text.proofs.Writing.{Left, left-all, left-none, rowsLeft, rows-again, rows-done, row-fits, row-long}
 use Rattle.text.proofs.output.put_rows.Statement.{statement}
 use Rattle.text.proofs.output.put_rows.Tie as tie
-use Rattle.text.proofs.output.put_rows.Reads as reads
-use Rattle.text.proofs.output.put_rows.Lts as lts
-use Rattle.text.proofs.output.put_line.Reads as put-line-reads
 
 abbrev Inv-loop : tie.InvT-loop
 Inv-loop out₀ at slots values fates whens bys end₀ i₀ out end i =
@@ -18,93 +15,71 @@ Inv-loop out₀ at slots values fates whens bys end₀ i₀ out end i =
 abbrev μ-loop : tie.MeasureT-loop
 μ-loop out₀ at slots values fates whens bys end₀ i₀ out end i = length slots - i
 
--- src/output.rt:98:5
 loop-holds : tie.Need-loop-holds Inv-loop μ-loop
 loop-holds c =
     let a = c .before .before .before .before .before .before .args in
     (omega arith, omega (arith, c .before .before .before .before .before .before .pre .1), left-all (a .at) _ (a .out .now))
 
--- src/output.rt:100:14
 add-t11 : tie.Need-add-t11 Inv-loop μ-loop
 add-t11 c = omega arith
 
--- src/output.rt:101:13
 mul-t14 : tie.Need-mul-t14 Inv-loop μ-loop
 mul-t14 c = omega arith
 
--- src/output.rt:101:13
 shared-slice-read-t16 : tie.Need-shared-slice-read-t16 Inv-loop μ-loop
 shared-slice-read-t16 c = omega arith
 
--- src/output.rt:101:13
 cast-t17 : tie.Need-cast-t17 Inv-loop μ-loop
 cast-t17 c = omega (arith, c .shared-slice-known6 .given (c .before .before .loop .i))
 
--- src/output.rt:102:13
 mul-t18 : tie.Need-mul-t18 Inv-loop μ-loop
 mul-t18 c = omega (arith, c .before .before .before .before .before .before .before .before .before .pre .0 .of-values)
 
--- src/output.rt:102:13
 shared-slice-read-t20 : tie.Need-shared-slice-read-t20 Inv-loop μ-loop
 shared-slice-read-t20 c = omega (arith, c .before .before .before .before .before .before .before .before .before .before .pre .0 .of-values)
 
--- src/output.rt:102:13
 cast-t21 : tie.Need-cast-t21 Inv-loop μ-loop
 cast-t21 c = omega (arith, c .shared-slice-known7 .given (c .before .before .before .loop .i))
 
--- src/output.rt:103:13
 mul-t22 : tie.Need-mul-t22 Inv-loop μ-loop
 mul-t22 c = omega (arith, c .before .before .before .before .before .before .before .before .before .before .pre .0 .of-fates)
 
--- src/output.rt:103:13
 shared-slice-read-t24 : tie.Need-shared-slice-read-t24 Inv-loop μ-loop
 shared-slice-read-t24 c = omega (arith, c .before .before .before .before .before .before .before .before .before .before .before .pre .0 .of-fates)
 
--- src/output.rt:103:13
 cast-t25 : tie.Need-cast-t25 Inv-loop μ-loop
 cast-t25 c = omega (arith, c .shared-slice-known8 .given (c .before .before .before .before .loop .i))
 
--- src/output.rt:104:13
 mul-t26 : tie.Need-mul-t26 Inv-loop μ-loop
 mul-t26 c = omega (arith, c .before .before .before .before .before .before .before .before .before .before .before .pre .0 .of-whens)
 
--- src/output.rt:104:13
 shared-slice-read-t28 : tie.Need-shared-slice-read-t28 Inv-loop μ-loop
 shared-slice-read-t28 c = omega (arith, c .before .before .before .before .before .before .before .before .before .before .before .before .pre .0 .of-whens)
 
--- src/output.rt:104:13
 cast-t29 : tie.Need-cast-t29 Inv-loop μ-loop
 cast-t29 c = omega (arith, c .shared-slice-known9 .given (c .before .before .before .before .before .loop .i))
 
--- src/output.rt:105:13
 mul-t30 : tie.Need-mul-t30 Inv-loop μ-loop
 mul-t30 c = omega (arith, c .before .before .before .before .before .before .before .before .before .before .before .before .pre .0 .of-bys)
 
--- src/output.rt:105:13
 shared-slice-read-t32 : tie.Need-shared-slice-read-t32 Inv-loop μ-loop
 shared-slice-read-t32 c = omega (arith, c .before .before .before .before .before .before .before .before .before .before .before .before .before .pre .0 .of-bys)
 
--- src/output.rt:105:13
 cast-t33 : tie.Need-cast-t33 Inv-loop μ-loop
 cast-t33 c = omega (arith, c .shared-slice-known10 .given (c .before .before .before .before .before .before .loop .i))
 
--- src/output.rt:107:34
 slice-aggregate-put-line : tie.Need-slice-aggregate-put-line Inv-loop μ-loop
 slice-aggregate-put-line c = search needs
 
--- src/output.rt:107:9
 put-line-requires : tie.Need-put-line-requires Inv-loop μ-loop
 put-line-requires c κs = omega arith
 
--- src/output.rt:108:9
 add-i : tie.Need-add-i Inv-loop μ-loop
 add-i c = search needs
 
--- src/output.rt:98:5
 loop-less : tie.Need-loop-less Inv-loop μ-loop
 loop-less c = search needs
 
--- src/output.rt:98:5
 loop-again : tie.Need-loop-again Inv-loop μ-loop
 loop-again c =
     let loop = c .before .before .before .before .before .before .before .before .before .before .before in
@@ -114,11 +89,9 @@ loop-again c =
       rows-again (a .slots .now) (a .values .now) (a .fates .now) (a .whens .now) (a .bys .now) (c .before .before .before .before .before .before .before .before .before .before .before .before .before .before .before .before .before .before .pre .0) (a .at) (a .out .now) (loop .loop .end) _ (loop .loop .i) (omega arith) (loop .loop .inv .2) _ _ (c .before .before .put-line .ensures),
     )
 
--- src/output.rt:83:1
 same-length : tie.Need-same-length Inv-loop μ-loop
 same-length c = c .before .loop .inv .2 .long
 
--- src/output.rt:83:1
 returns : tie.Need-returns Inv-loop μ-loop
 returns c =
     let loop = c .before in

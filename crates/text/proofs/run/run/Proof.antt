@@ -4,46 +4,34 @@ use Rattle.text.proofs.Saying.{zeros-length, blank-said}
 use borrow.Author.Needs.{needs}
 use Rattle.text.proofs.run.run.Statement.{statement}
 use Rattle.text.proofs.run.run.Tie as tie
-use Rattle.text.proofs.run.run.Reads as reads
-use Rattle.text.proofs.run.run.Lts as lts
-use Rattle.text.proofs.run.say.Reads as say-reads
 
--- src/run.rt:66:9
 array-borrow-prefix-fates : tie.Need-array-borrow-prefix-fates
 array-borrow-prefix-fates c = search needs
 
--- src/run.rt:66:9
 slice-aggregate-say : tie.Need-slice-aggregate-say
 slice-aggregate-say c = sym (zeros-length _ 2048 (c .before .before .before .before .pre .1 .0))
 
--- src/run.rt:67:9
 array-borrow-prefix-whens : tie.Need-array-borrow-prefix-whens
 array-borrow-prefix-whens c = search needs
 
--- src/run.rt:67:9
 slice-aggregate-say-2 : tie.Need-slice-aggregate-say-2
 slice-aggregate-say-2 c = sym (zeros-length _ 2048 (c .before .before .before .before .before .pre .1 .0))
 
--- src/run.rt:68:9
 array-borrow-prefix-bys : tie.Need-array-borrow-prefix-bys
 array-borrow-prefix-bys c = search needs
 
--- src/run.rt:68:9
 slice-aggregate-say-3 : tie.Need-slice-aggregate-say-3
 slice-aggregate-say-3 c = sym (zeros-length _ 2048 (c .before .before .before .before .before .before .pre .1 .0))
 
--- src/run.rt:63:5
 say-requires : tie.Need-say-requires
 say-requires c κs =
     let pre = c .before .before .before .before .before .before .before .pre in
     let long = zeros-length _ 2048 (pre .1 .0) in
     (record { of-values = pre .0; of-fates = long; of-whens = long; of-bys = long }, (pre .1 .0, pre .1 .1))
 
--- src/run.rt:53:1
 same-length : tie.Need-same-length
 same-length c = search needs
 
--- src/run.rt:53:1
 returns : tie.Need-returns
 returns c =
     let a = c .before .before .before .before .before .before .before .before .before .before .before .before .before .args in

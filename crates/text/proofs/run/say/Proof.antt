@@ -6,71 +6,49 @@ use Rattle.text.proofs.Saying.{refused-said, ran-said}
 use borrow.Author.Needs.{needs}
 use Rattle.text.proofs.run.say.Statement.{statement}
 use Rattle.text.proofs.run.say.Tie as tie
-use Rattle.text.proofs.run.say.Reads as reads
-use Rattle.text.proofs.run.say.Lts as lts
-use Rattle.model.proofs.Cause.number.Reads as number-reads
-use Rattle.runs.proofs.calls.pg.Reads as pg-reads
-use Rattle.text.proofs.output.put.Reads as put-reads
-use Rattle.text.proofs.output.put_refusal.Reads as put-refusal-reads
-use Rattle.text.proofs.output.put_rows.Reads as put-rows-reads
 
--- src/run.rt:40:11
 pg-requires : tie.Need-pg-requires
 pg-requires c κs = search needs
 
--- src/run.rt:41:28
 enum-known-refusal : tie.Need-enum-known-refusal
 enum-known-refusal c = search needs
 
--- src/run.rt:43:30
 number-requires : tie.Need-number-requires
 number-requires c κs = search needs
 
--- src/run.rt:43:30
 cast-put-refusal : tie.Need-cast-put-refusal
 cast-put-refusal c = search needs
 
--- src/run.rt:43:53
 cast-put-refusal-2 : tie.Need-cast-put-refusal-2
 cast-put-refusal-2 c = search needs
 
--- src/run.rt:43:13
 put-refusal-requires : tie.Need-put-refusal-requires
 put-refusal-requires c κs = search needs
 
--- src/run.rt:46:26
 enum-told : tie.Need-enum-told
 enum-told c = search needs
 
--- src/run.rt:46:34
 slice-aggregate-put : tie.Need-slice-aggregate-put
 slice-aggregate-put c = search needs
 
--- src/run.rt:46:17
 put-requires : tie.Need-put-requires
 put-requires c κs = search needs
 
--- src/run.rt:47:13
 put-rows-requires : tie.Need-put-rows-requires
 put-rows-requires c κs = search needs
 
--- src/run.rt:26:1
 same-length : tie.Need-same-length
 same-length c = search needs
 
--- src/run.rt:26:1
 same-length-2 : tie.Need-same-length-2
 same-length-2 c = search needs
 
--- src/run.rt:26:1
 same-length-3 : tie.Need-same-length-3
 same-length-3 c = search needs
 
--- src/run.rt:26:1
 same-length-4 : tie.Need-same-length-4
 same-length-4 c = search needs
 
--- src/run.rt:26:1
 returns : tie.Need-returns
 returns c =
     let a = c .before .before .before .before .before .before .before .before .before .before .before .before .before .before .before .before .before .before .before .before .before .before .before .before .before .args in
@@ -79,23 +57,18 @@ returns c =
     let said = refused-said (a .slots .now) (a .values .now) (pg .result) _ _ (pg .ensures) (told .given .0 .0) (told .given .1) in
     wrote-same (ap (λ (n : ℕ). refusalText n (told .given .0 .0 .place)) (c .before .before .before .before .number .ensures) ∙ said) refl (c .before .before .put-refusal .ensures)
 
--- src/run.rt:26:1
 same-length-5 : tie.Need-same-length-5
 same-length-5 c = search needs
 
--- src/run.rt:26:1
 same-length-6 : tie.Need-same-length-6
 same-length-6 c = search needs
 
--- src/run.rt:26:1
 same-length-7 : tie.Need-same-length-7
 same-length-7 c = search needs
 
--- src/run.rt:26:1
 same-length-8 : tie.Need-same-length-8
 same-length-8 c = search needs
 
--- src/run.rt:26:1
 returns-2 : tie.Need-returns-2
 returns-2 c =
     let a = c .before .before .before .before .before .before .before .before .before .before .before .before .before .before .before .before .before .before .before .before .before .before .before .before .before .before .before .before .before .before .args in

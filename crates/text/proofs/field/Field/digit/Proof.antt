@@ -4,58 +4,43 @@ use borrow.Author.Tests.{lt-ltb, le-ltb, le-leb, lt-leb}
 use borrow.Author.Needs.{needs}
 use Rattle.text.proofs.field.Field.digit.Statement.{statement}
 use Rattle.text.proofs.field.Field.digit.Tie as tie
-use Rattle.text.proofs.field.Field.digit.Reads as reads
-use Rattle.text.proofs.field.Field.digit.Lts as lts
-use Rattle.text.proofs.field.Field.bad.Reads as bad-reads
 
--- src/field.rt:79:13
 bad-requires : tie.Need-bad-requires
 bad-requires c κs = search needs
 
--- src/field.rt:79:13
 returns : tie.Need-returns
 unfolding digitTaken
 returns c = rw (lt-ltb _ _ (c .before .if1 .taken)) (c .bad .ensures)
 
--- src/field.rt:82:13
 bad-requires-2 : tie.Need-bad-requires-2
 bad-requires-2 c κs = search needs
 
--- src/field.rt:82:13
 returns-2 : tie.Need-returns-2
 unfolding digitTaken
 returns-2 c = rw (le-ltb _ _ (c .before .before .before .if1 .left), le-leb _ _ (c .before .if2 .taken)) (c .bad2 .ensures)
 
--- src/field.rt:85:13
 bad-requires-3 : tie.Need-bad-requires-3
 bad-requires-3 c κs = search needs
 
--- src/field.rt:85:13
 returns-3 : tie.Need-returns-3
 unfolding digitTaken
 returns-3 c = rw (le-ltb _ _ (c .before .before .before .before .before .if1 .left), lt-leb _ _ (c .before .before .before .if2 .left), le-leb _ _ (c .before .if3 .taken)) (c .bad3 .ensures)
 
--- src/field.rt:90:21
 add-t5 : tie.Need-add-t5
 add-t5 c = search needs
 
--- src/field.rt:91:21
 mul-t6 : tie.Need-mul-t6
 mul-t6 c = search needs
 
--- src/field.rt:91:41
 sub-t7 : tie.Need-sub-t7
 sub-t7 c = search needs
 
--- src/field.rt:91:40
 cast-t8 : tie.Need-cast-t8
 cast-t8 c = search needs
 
--- src/field.rt:91:21
 add-t9 : tie.Need-add-t9
 add-t9 c = search needs
 
--- src/field.rt:74:5
 returns-4 : tie.Need-returns-4
 unfolding digitTaken
 returns-4 c = rw (le-ltb _ _ (c .before .before .before .before .before .before .if1 .left), lt-leb _ _ (c .before .before .before .before .if2 .left), lt-leb _ _ (c .before .before .if3 .left)) refl

@@ -3,67 +3,51 @@ use mathlib.Core.Path.{refl}
 use borrow.Author.Needs.{needs}
 use Rattle.text.proofs.field.Field.kind.Statement.{statement}
 use Rattle.text.proofs.field.Field.kind.Tie as tie
-use Rattle.text.proofs.field.Field.kind.Reads as reads
-use Rattle.text.proofs.field.Field.kind.Lts as lts
-use Rattle.text.proofs.field.Field.whole.Reads as whole-reads
 
--- src/field.rt:180:29
 enum-told : tie.Need-enum-told
 enum-told c = search needs
 
--- src/field.rt:180:29
 whole-requires : tie.Need-whole-requires
 whole-requires c κs = search needs
 
--- src/field.rt:181:28
 enum-told-2 : tie.Need-enum-told-2
 enum-told-2 c = search needs
 
--- src/field.rt:181:28
 whole-requires-2 : tie.Need-whole-requires-2
 whole-requires-2 c κs = search needs
 
--- src/field.rt:182:30
 enum-told-3 : tie.Need-enum-told-3
 enum-told-3 c = search needs
 
--- src/field.rt:182:30
 whole-requires-3 : tie.Need-whole-requires-3
 whole-requires-3 c κs = search needs
 
--- src/field.rt:183:28
 enum-told-4 : tie.Need-enum-told-4
 enum-told-4 c = search needs
 
--- src/field.rt:184:27
 enum-told-5 : tie.Need-enum-told-5
 enum-told-5 c = search needs
 
--- src/field.rt:175:5
 returns : tie.Need-returns
 returns c =
     let a = c .before .before .before .before .args in
     rw (kind-by (a .name .now) (a .self) _ (c .before .enum-told .given .1)) (c .whole .ensures)
 
--- src/field.rt:175:5
 returns-2 : tie.Need-returns-2
 returns-2 c =
     let a = c .before .before .before .before .args in
     rw (kind-by (a .name .now) (a .self) _ (c .before .enum-told2 .given .1)) (c .whole2 .ensures)
 
--- src/field.rt:175:5
 returns-3 : tie.Need-returns-3
 returns-3 c =
     let a = c .before .before .before .before .args in
     rw (kind-by (a .name .now) (a .self) _ (c .before .enum-told3 .given .1)) (c .whole3 .ensures)
 
--- src/field.rt:175:5
 returns-4 : tie.Need-returns-4
 returns-4 c =
     let a = c .before .before .before .args in
     rw (kind-by (a .name .now) (a .self) _ (c .enum-told4 .given .1)) refl
 
--- src/field.rt:175:5
 returns-5 : tie.Need-returns-5
 returns-5 c =
     let a = c .before .before .before .args in

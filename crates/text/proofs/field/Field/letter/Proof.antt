@@ -4,46 +4,34 @@ use borrow.Author.Tests.{lt-ltb, le-ltb, le-leb, lt-leb, eq-eqb, ne-eqb}
 use borrow.Author.Needs.{needs}
 use Rattle.text.proofs.field.Field.letter.Statement.{statement}
 use Rattle.text.proofs.field.Field.letter.Tie as tie
-use Rattle.text.proofs.field.Field.letter.Reads as reads
-use Rattle.text.proofs.field.Field.letter.Lts as lts
-use Rattle.text.proofs.field.Field.bad.Reads as bad-reads
 
--- src/field.rt:101:13
 bad-requires : tie.Need-bad-requires
 bad-requires c κs = search needs
 
--- src/field.rt:101:13
 returns : tie.Need-returns
 unfolding letterTaken
 returns c = rw (lt-ltb _ _ (c .before .if1 .taken)) (c .bad .ensures)
 
--- src/field.rt:104:13
 bad-requires-2 : tie.Need-bad-requires-2
 bad-requires-2 c κs = search needs
 
--- src/field.rt:104:13
 returns-2 : tie.Need-returns-2
 unfolding letterTaken
 returns-2 c = rw (le-ltb _ _ (c .before .before .if1 .left), le-leb _ _ (c .before .if2 .taken)) (c .bad2 .ensures)
 
--- src/field.rt:106:12
 shared-slice-read-if3 : tie.Need-shared-slice-read-if3
 shared-slice-read-if3 c = search needs
 
--- src/field.rt:109:26
 add-t11 : tie.Need-add-t11
 add-t11 c = search needs
 
--- src/field.rt:114:13
 bad-requires-3 : tie.Need-bad-requires-3
 bad-requires-3 c κs = search needs
 
--- src/field.rt:96:5
 returns-3 : tie.Need-returns-3
 unfolding letterTaken
 returns-3 c = rw (le-ltb _ _ (c .before .before .before .if1 .left), lt-leb _ _ (c .before .before .if2 .left), eq-eqb _ _ (c .if3 .taken)) refl
 
--- src/field.rt:96:5
 returns-4 : tie.Need-returns-4
 unfolding letterTaken
 returns-4 c = rw (le-ltb _ _ (c .before .before .before .before .if1 .left), lt-leb _ _ (c .before .before .before .if2 .left), ne-eqb _ _ (c .before .if3 .left)) (c .bad3 .ensures)

@@ -3,97 +3,73 @@ use borrow.Author.Tests.{eq-eqb, ne-eqb}
 use borrow.Author.Needs.{needs}
 use Rattle.text.proofs.field.Field.step.Statement.{statement}
 use Rattle.text.proofs.field.Field.step.Tie as tie
-use Rattle.text.proofs.field.Field.step.Reads as reads
-use Rattle.text.proofs.field.Field.step.Lts as lts
-use Rattle.text.proofs.field.Field.at.Reads as at-reads
-use Rattle.text.proofs.field.Field.bad.Reads as bad-reads
-use Rattle.text.proofs.field.Field.take.Reads as take-reads
 
--- src/field.rt:138:20
 enum-told : tie.Need-enum-told
 enum-told c = search needs
 
--- src/field.rt:139:21
 at-requires : tie.Need-at-requires
 at-requires c κs = search needs
 
--- src/field.rt:139:21
 returns : tie.Need-returns
 returns c =
     let a = c .before .before .before .before .before .args in
     rw (field-by (a .name .now) (a .self) _ (c .before .before .enum-told .given .1), eq-eqb _ _ (c .before .if1 .taken)) (c .at .ensures)
 
--- src/field.rt:141:17
 take-requires : tie.Need-take-requires
 take-requires c κs = search needs
 
--- src/field.rt:143:38
 enum-told-2 : tie.Need-enum-told-2
 enum-told-2 c = search needs
 
--- src/field.rt:143:28
 take-requires-2 : tie.Need-take-requires-2
 take-requires-2 c κs = search needs
 
--- src/field.rt:145:20
 enum-told-3 : tie.Need-enum-told-3
 enum-told-3 c = search needs
 
--- src/field.rt:146:21
 at-requires-2 : tie.Need-at-requires-2
 at-requires-2 c κs = search needs
 
--- src/field.rt:146:21
 returns-2 : tie.Need-returns-2
 returns-2 c =
     let a = c .before .before .before .before .before .args in
     rw (field-by (a .name .now) (a .self) _ (c .before .before .enum-told3 .given .1), eq-eqb _ _ (c .before .if2 .taken)) (c .at2 .ensures)
 
--- src/field.rt:148:17
 take-requires-3 : tie.Need-take-requires-3
 take-requires-3 c κs = search needs
 
--- src/field.rt:150:30
 enum-told-4 : tie.Need-enum-told-4
 enum-told-4 c = search needs
 
--- src/field.rt:150:30
 bad-requires : tie.Need-bad-requires
 bad-requires c κs = search needs
 
--- src/field.rt:151:27
 enum-told-5 : tie.Need-enum-told-5
 enum-told-5 c = search needs
 
--- src/field.rt:151:27
 bad-requires-2 : tie.Need-bad-requires-2
 bad-requires-2 c κs = search needs
 
--- src/field.rt:132:5
 returns-3 : tie.Need-returns-3
 returns-3 c =
     let a = c .before .before .before .before .before .args in
     rw (field-by (a .name .now) (a .self) _ (c .before .before .enum-told .given .1), ne-eqb _ _ (c .before .if1 .left)) (c .take .ensures)
 
--- src/field.rt:132:5
 returns-4 : tie.Need-returns-4
 returns-4 c =
     let a = c .before .before .before .before .args in
     rw (field-by (a .name .now) (a .self) _ (c .before .enum-told2 .given .1)) (c .take2 .ensures)
 
--- src/field.rt:132:5
 returns-5 : tie.Need-returns-5
 returns-5 c =
     let a = c .before .before .before .before .before .args in
     rw (field-by (a .name .now) (a .self) _ (c .before .before .enum-told3 .given .1), ne-eqb _ _ (c .before .if2 .left)) (c .take3 .ensures)
 
--- src/field.rt:132:5
 returns-6 : tie.Need-returns-6
 returns-6 c =
     let a = c .before .before .before .before .args in
     rw (field-by (a .name .now) (a .self) _ (c .before .enum-told4 .given .1)) (c .bad .ensures)
 
--- src/field.rt:132:5
 returns-7 : tie.Need-returns-7
 returns-7 c =
     let a = c .before .before .before .before .args in

@@ -3,25 +3,19 @@ use mathlib.Core.Path.{refl}
 use borrow.Author.Tests.{le-leb, lt-leb, eq-eqb, ne-eqb}
 use Rattle.text.proofs.field.Field.whole.Statement.{statement}
 use Rattle.text.proofs.field.Field.whole.Tie as tie
-use Rattle.text.proofs.field.Field.whole.Reads as reads
-use Rattle.text.proofs.field.Field.whole.Lts as lts
 
--- src/field.rt:161:17
 returns : tie.Need-returns
 unfolding wholeKind
 returns c = rw (eq-eqb _ _ (c .before .before .if1 .taken), le-leb _ _ (c .if2 .taken)) refl
 
--- src/field.rt:163:13
 returns-2 : tie.Need-returns-2
 unfolding wholeKind
 returns-2 c = rw (eq-eqb _ _ (c .before .before .if1 .taken), lt-leb _ _ (c .if2 .left)) refl
 
--- src/field.rt:166:13
 returns-3 : tie.Need-returns-3
 unfolding wholeKind
 returns-3 c = rw (ne-eqb _ _ (c .before .before .if1 .left), eq-eqb _ _ (c .if3 .taken)) refl
 
--- src/field.rt:156:5
 returns-4 : tie.Need-returns-4
 unfolding wholeKind
 returns-4 c = rw (ne-eqb _ _ (c .before .before .if1 .left), ne-eqb _ _ (c .if3 .left)) refl

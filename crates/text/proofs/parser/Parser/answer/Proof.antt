@@ -10,54 +10,40 @@ use Rattle.text.proofs.Saying.{answered-none, answered, short-slots, sh
 use borrow.Author.Needs.{needs}
 use Rattle.text.proofs.parser.Parser.answer.Statement.{statement}
 use Rattle.text.proofs.parser.Parser.answer.Tie as tie
-use Rattle.text.proofs.parser.Parser.answer.Reads as reads
-use Rattle.text.proofs.parser.Parser.answer.Lts as lts
-use Rattle.model.proofs.Cause.number.Reads as number-reads
-use Rattle.text.proofs.output.put_refusal.Reads as put-refusal-reads
-use Rattle.text.proofs.run.run.Reads as run-reads
 
--- src/parser.rt:278:13
 returns : tie.Need-returns
 returns c =
     let a = c .before .before .before .before .args in
     let st = state (a .self) (a .slots .now) (a .values .now) in
     answered-none st (a .out .now) (short-slots st (a .out .now) (c .if1 .taken))
 
--- src/parser.rt:281:13
 returns-2 : tie.Need-returns-2
 returns-2 c =
     let a = c .before .before .before .before .before .args in
     let st = state (a .self) (a .slots .now) (a .values .now) in
     answered-none st (a .out .now) (short-values st (a .out .now) (c .before .if1 .left) (c .if2 .taken))
 
--- src/parser.rt:284:13
 returns-3 : tie.Need-returns-3
 returns-3 c =
     let a = c .before .before .before .before .before .before .args in
     let st = state (a .self) (a .slots .now) (a .values .now) in
     answered-none st (a .out .now) (short-out st (a .out .now) (c .before .before .if1 .left) (c .before .if2 .left) (c .if3 .taken))
 
--- src/parser.rt:289:32
 enum-told : tie.Need-enum-told
 enum-told c = search needs
 
--- src/parser.rt:289:37
 number-requires : tie.Need-number-requires
 number-requires c κs = search needs
 
--- src/parser.rt:289:37
 cast-put-refusal : tie.Need-cast-put-refusal
 cast-put-refusal c = search needs
 
--- src/parser.rt:289:13
 put-refusal-requires : tie.Need-put-refusal-requires
 put-refusal-requires c κs = search needs
 
--- src/parser.rt:289:13
 same-length : tie.Need-same-length
 same-length c = search needs
 
--- src/parser.rt:289:13
 returns-4 : tie.Need-returns-4
 returns-4 c =
     let a = c .before .before .before .before .before .before .before .before .before .before .before .before .before .before .args in
@@ -66,23 +52,18 @@ returns-4 c =
     answered st (a .out .now) _ _ _ said
     (wrote-same (ap (λ (n : ℕ). refusalText n (a .self .line)) (c .before .before .before .number .ensures)) refl (c .before .before .put-refusal .ensures))
 
--- src/parser.rt:293:37
 number-requires-2 : tie.Need-number-requires-2
 number-requires-2 c κs = search needs
 
--- src/parser.rt:293:37
 cast-put-refusal-2 : tie.Need-cast-put-refusal-2
 cast-put-refusal-2 c = search needs
 
--- src/parser.rt:293:13
 put-refusal-requires-2 : tie.Need-put-refusal-requires-2
 put-refusal-requires-2 c κs = search needs
 
--- src/parser.rt:293:13
 same-length-2 : tie.Need-same-length-2
 same-length-2 c = search needs
 
--- src/parser.rt:293:13
 returns-5 : tie.Need-returns-5
 returns-5 c =
     let a = c .before .before .before .before .before .before .before .before .before .before .before .before .before .before .args in
@@ -91,15 +72,12 @@ returns-5 c =
     answered st (a .out .now) _ _ _ said
     (wrote-same (ap (λ (n : ℕ). refusalText n 0) (c .before .before .before .number2 .ensures)) refl (c .before .before .put-refusal2 .ensures))
 
--- src/parser.rt:295:13
 slice-aggregate-run : tie.Need-slice-aggregate-run
 slice-aggregate-run c = sym (length-take-le _ (c .before .before .before .before .before .before .before .before .before .before .args .slots .now) (omega arith))
 
--- src/parser.rt:295:30
 slice-aggregate-run-2 : tie.Need-slice-aggregate-run-2
 slice-aggregate-run-2 c = sym (length-take-le _ (c .before .before .before .before .before .before .before .before .before .before .before .args .values .now) (omega arith))
 
--- src/parser.rt:295:9
 run-requires : tie.Need-run-requires
 run-requires c κs =
     let a = c .before .before .before .before .before .before .before .before .before .before .before .before .args in
@@ -107,11 +85,9 @@ run-requires c κs =
     let values = length-take-le (a .self .count) (a .values .now) (omega arith) in
     (values ∙ sym slots, (omega arith, omega arith))
 
--- src/parser.rt:274:5
 same-length-3 : tie.Need-same-length-3
 same-length-3 c = search needs
 
--- src/parser.rt:274:5
 returns-6 : tie.Need-returns-6
 returns-6 c =
     let a = c .before .before .before .before .before .before .before .before .before .before .before .before .before .before .before .args in

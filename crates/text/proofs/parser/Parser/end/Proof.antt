@@ -6,63 +6,46 @@ use Rattle.text.proofs.Parsing.{finished-by}
 use borrow.Author.Needs.{needs}
 use Rattle.text.proofs.parser.Parser.end.Statement.{statement}
 use Rattle.text.proofs.parser.Parser.end.Tie as tie
-use Rattle.text.proofs.parser.Parser.end.Reads as reads
-use Rattle.text.proofs.parser.Parser.end.Lts as lts
-use Rattle.text.proofs.parser.Parser.end_line.Reads as end-line-reads
-use Rattle.text.proofs.parser.Parser.is_at_start.Reads as is-at-start-reads
-use Rattle.text.proofs.parser.Parser.spoiled.Reads as spoiled-reads
 
--- src/parser.rt:252:13
 spoiled-requires : tie.Need-spoiled-requires
 spoiled-requires c κs = search needs
 
--- src/parser.rt:252:13
 returns : tie.Need-returns
 returns c =
     let a = c .before .before .before .before .args in
     rw (finished-by (state (a .self) (a .slots .now) (a .values .now)) _ (c .before .if1 .taken) _ (refl)) (ap (λ (p : Parser). state p (a .slots .now) (a .values .now)) (c .spoiled .ensures))
 
--- src/parser.rt:254:12
 is-at-start-requires : tie.Need-is-at-start-requires
 is-at-start-requires c κs = search needs
 
--- src/parser.rt:256:17
 end-line-requires : tie.Need-end-line-requires
 end-line-requires c κs = search needs
 
--- src/parser.rt:256:17
 same-length : tie.Need-same-length
 same-length c = search needs
 
--- src/parser.rt:256:17
 same-length-2 : tie.Need-same-length-2
 same-length-2 c = search needs
 
--- src/parser.rt:256:17
 returns-2 : tie.Need-returns-2
 returns-2 c =
     let a = c .before .before .before .before .before .before .before .before .before .before .before .before .before .before .args in
     rw (finished-by (state (a .self) (a .slots .now) (a .values .now)) _ (c .before .before .before .before .before .before .before .before .before .before .before .if1 .left) _ (sym (c .before .before .before .before .before .before .before .before .before .before .is-at-start .ensures) ∙ c .before .before .before .before .before .before .before .before .before .if2 .taken), eq-eqb _ _ (c .before .before .before .before .before .before .before .if3 .taken)) (c .before .before .before .before .end-line .ensures)
 
--- src/parser.rt:258:13
 returns-3 : tie.Need-returns-3
 returns-3 c =
     let a = c .before .before .before .before .before .before .before .args in
     rw (finished-by (state (a .self) (a .slots .now) (a .values .now)) _ (c .before .before .before .before .if1 .left) _ (sym (c .before .before .before .is-at-start .ensures) ∙ c .before .before .if2 .taken), ne-eqb _ _ (c .if3 .left)) refl
 
--- src/parser.rt:260:9
 end-line-requires-2 : tie.Need-end-line-requires-2
 end-line-requires-2 c κs = search needs
 
--- src/parser.rt:248:5
 same-length-3 : tie.Need-same-length-3
 same-length-3 c = search needs
 
--- src/parser.rt:248:5
 same-length-4 : tie.Need-same-length-4
 same-length-4 c = search needs
 
--- src/parser.rt:248:5
 returns-4 : tie.Need-returns-4
 returns-4 c =
     let a = c .before .before .before .before .before .before .before .before .before .before .before .before .args in

@@ -6,46 +6,31 @@ use Rattle.text.proofs.Parsing.{line-ended-by}
 use borrow.Author.Needs.{needs}
 use Rattle.text.proofs.parser.Parser.end_line.Statement.{statement}
 use Rattle.text.proofs.parser.Parser.end_line.Tie as tie
-use Rattle.text.proofs.parser.Parser.end_line.Reads as reads
-use Rattle.text.proofs.parser.Parser.end_line.Lts as lts
-use Rattle.text.proofs.field.Field.kind.Reads as kind-reads
-use Rattle.text.proofs.parser.Parser.end_header.Reads as end-header-reads
-use Rattle.text.proofs.parser.Parser.end_packet.Reads as end-packet-reads
-use Rattle.text.proofs.parser.Parser.spoiled.Reads as spoiled-reads
 
--- src/parser.rt:190:33
 slice-aggregate-kind : tie.Need-slice-aggregate-kind
 slice-aggregate-kind c = search needs
 
--- src/parser.rt:190:13
 kind-requires : tie.Need-kind-requires
 kind-requires c κs = search needs
 
--- src/parser.rt:192:27
 enum-told : tie.Need-enum-told
 enum-told c = search needs
 
--- src/parser.rt:192:27
 end-header-requires : tie.Need-end-header-requires
 end-header-requires c κs = search needs
 
--- src/parser.rt:193:26
 enum-known-first : tie.Need-enum-known-first
 enum-known-first c = search needs
 
--- src/parser.rt:193:35
 end-packet-requires : tie.Need-end-packet-requires
 end-packet-requires c κs = search needs
 
--- src/parser.rt:194:30
 enum-told-2 : tie.Need-enum-told-2
 enum-told-2 c = search needs
 
--- src/parser.rt:194:30
 spoiled-requires : tie.Need-spoiled-requires
 spoiled-requires c κs = search needs
 
--- src/parser.rt:185:5
 returns : tie.Need-returns
 returns c =
     let a = c .before .before .before .before .before .before .before .before .args in
@@ -53,15 +38,12 @@ returns c =
     rw (line-ended-by (state (a .self) (a .slots .now) (a .values .now)) _ (c .before .enum-told .given .1))
     (ap (λ (p : Parser). state p (a .slots .now) (a .values .now)) ended)
 
--- src/parser.rt:185:5
 same-length : tie.Need-same-length
 same-length c = search needs
 
--- src/parser.rt:185:5
 same-length-2 : tie.Need-same-length-2
 same-length-2 c = search needs
 
--- src/parser.rt:185:5
 returns-2 : tie.Need-returns-2
 returns-2 c =
     let a = c .before .before .before .before .before .before .before .before .before .before .before .before .before .before .before .args in
@@ -69,7 +51,6 @@ returns-2 c =
     let first = c .before .before .before .before .before .before .before .before .first in
     rw (line-ended-by st _ (first .given .1)) (c .before .before .before .before .end-packet .ensures ∙ ap (λ (k : Kind). packetBy (first .given .0 .0) k st) (c .before .before .before .before .before .before .before .before .before .before .kind .ensures))
 
--- src/parser.rt:185:5
 returns-3 : tie.Need-returns-3
 returns-3 c =
     let a = c .before .before .before .before .before .before .before .before .args in

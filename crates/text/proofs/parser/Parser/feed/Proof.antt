@@ -7,9 +7,6 @@ use Rattle.text.specs.Reading.{state, afterAll}
 use Rattle.text.proofs.Parsing.{fed-turn, fed-done}
 use Rattle.text.proofs.parser.Parser.feed.Statement.{statement}
 use Rattle.text.proofs.parser.Parser.feed.Tie as tie
-use Rattle.text.proofs.parser.Parser.feed.Reads as reads
-use Rattle.text.proofs.parser.Parser.feed.Lts as lts
-use Rattle.text.proofs.parser.Parser.step.Reads as step-reads
 
 abbrev Inv-loop : tie.InvT-loop
 Inv-loop slots₀ values₀ bytes parser₀ i₀ slots values parser i =
@@ -21,27 +18,21 @@ Inv-loop slots₀ values₀ bytes parser₀ i₀ slots values parser i =
 abbrev μ-loop : tie.MeasureT-loop
 μ-loop slots₀ values₀ bytes parser₀ i₀ slots values parser i = length bytes - i
 
--- src/parser.rt:220:9
 loop-holds : tie.Need-loop-holds Inv-loop μ-loop
 loop-holds c = search needs
 
--- src/parser.rt:221:49
 shared-slice-read-step : tie.Need-shared-slice-read-step Inv-loop μ-loop
 shared-slice-read-step c = search needs
 
--- src/parser.rt:221:13
 step-requires : tie.Need-step-requires Inv-loop μ-loop
 step-requires c κs = search needs
 
--- src/parser.rt:222:13
 add-i : tie.Need-add-i Inv-loop μ-loop
 add-i c = search needs
 
--- src/parser.rt:220:9
 loop-less : tie.Need-loop-less Inv-loop μ-loop
 loop-less c = search needs
 
--- src/parser.rt:220:9
 loop-again : tie.Need-loop-again Inv-loop μ-loop
 loop-again c =
     let loop = c .before .before .before .before .before .before .before .before .before in
@@ -53,15 +44,12 @@ loop-again c =
       fed-turn bytes (loop .loop .i) (omega arith) (state (loop .loop .parser) (loop .loop .slots) (loop .loop .values)) _ (step .ensures) ∙ loop .loop .inv .3,
     )
 
--- src/parser.rt:215:5
 same-length : tie.Need-same-length Inv-loop μ-loop
 same-length c = search needs
 
--- src/parser.rt:215:5
 same-length-2 : tie.Need-same-length-2 Inv-loop μ-loop
 same-length-2 c = search needs
 
--- src/parser.rt:215:5
 returns : tie.Need-returns Inv-loop μ-loop
 returns c =
     let loop = c .before in

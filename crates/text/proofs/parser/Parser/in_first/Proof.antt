@@ -7,43 +7,29 @@ use Rattle.text.specs.Reading.{inFirst, secondField, withField}
 use borrow.Author.Needs.{needs}
 use Rattle.text.proofs.parser.Parser.in_first.Statement.{statement}
 use Rattle.text.proofs.parser.Parser.in_first.Tie as tie
-use Rattle.text.proofs.parser.Parser.in_first.Reads as reads
-use Rattle.text.proofs.parser.Parser.in_first.Lts as lts
-use Rattle.text.proofs.field.Field.kind.Reads as kind-reads
-use Rattle.text.proofs.field.Field.step.Reads as step-reads
-use Rattle.text.proofs.parser.Parser.second.Reads as second-reads
-use Rattle.text.proofs.parser.Parser.with.Reads as with-reads
 
--- src/parser.rt:119:43
 slice-aggregate-kind : tie.Need-slice-aggregate-kind
 slice-aggregate-kind c = search needs
 
--- src/parser.rt:119:32
 kind-requires : tie.Need-kind-requires
 kind-requires c κs = search needs
 
--- src/parser.rt:119:13
 second-requires : tie.Need-second-requires
 second-requires c κs = search needs
 
--- src/parser.rt:119:13
 returns : tie.Need-returns
 unfolding inFirst
 returns c = rw (eq-eqb _ _ (c .before .before .before .if1 .taken)) (c .second .ensures ∙ ap (λ (k : Kind). secondField k (c .before .before .before .before .before .args .self)) (c .before .kind .ensures))
 
--- src/parser.rt:121:45
 slice-aggregate-step : tie.Need-slice-aggregate-step
 slice-aggregate-step c = search needs
 
--- src/parser.rt:121:34
 step-requires : tie.Need-step-requires
 step-requires c κs = search needs
 
--- src/parser.rt:121:9
 with-requires : tie.Need-with-requires
 with-requires c κs = search needs
 
--- src/parser.rt:114:5
 returns-2 : tie.Need-returns-2
 unfolding inFirst
 returns-2 c = rw (ne-eqb _ _ (c .before .before .before .if1 .left)) (c .with .ensures ∙ ap (λ (f : Field). withField Neither f (c .before .before .before .before .before .args .self)) (c .before .step .ensures))

@@ -7,39 +7,28 @@ use Rattle.text.specs.Reading.{kept}
 use borrow.Author.Needs.{needs}
 use Rattle.text.proofs.parser.Parser.keep.Statement.{statement}
 use Rattle.text.proofs.parser.Parser.keep.Tie as tie
-use Rattle.text.proofs.parser.Parser.keep.Reads as reads
-use Rattle.text.proofs.parser.Parser.keep.Lts as lts
-use Rattle.text.proofs.parser.Parser.next_line.Reads as next-line-reads
 
--- src/parser.rt:158:9
 put-requires : tie.Need-put-requires
 put-requires c κs = search needs
 
--- src/parser.rt:159:9
 put-requires-2 : tie.Need-put-requires-2
 put-requires-2 c κs = search needs
 
--- src/parser.rt:161:13
 add-next : tie.Need-add-next
 add-next c = search needs
 
--- src/parser.rt:163:13
 add-next-2 : tie.Need-add-next-2
 add-next-2 c = search needs
 
--- src/parser.rt:165:9
 next-line-requires : tie.Need-next-line-requires
 next-line-requires c κs = search needs
 
--- src/parser.rt:154:5
 same-length : tie.Need-same-length
 same-length c = search needs
 
--- src/parser.rt:154:5
 same-length-2 : tie.Need-same-length-2
 same-length-2 c = search needs
 
--- src/parser.rt:154:5
 returns : tie.Need-returns
 unfolding kept
 returns c =

@@ -5,19 +5,13 @@ use native.Mathlib.Omega.{arith}
 use borrow.Author.Needs.{needs}
 use Rattle.text.proofs.parser.Parser.next_line.Statement.{statement}
 use Rattle.text.proofs.parser.Parser.next_line.Tie as tie
-use Rattle.text.proofs.parser.Parser.next_line.Reads as reads
-use Rattle.text.proofs.parser.Parser.next_line.Lts as lts
-use Rattle.text.proofs.field.Field.fresh.Reads as fresh-reads
 
--- src/parser.rt:92:41
 add-next : tie.Need-add-next
 add-next c = search needs
 
--- src/parser.rt:95:20
 fresh-requires : tie.Need-fresh-requires
 fresh-requires c κs = search needs
 
--- src/parser.rt:88:5
 returns : tie.Need-returns
 returns c =
     let e : c .before .if1 .next ≡ min (c .before .before .args .self .line + 1) (2 ^ 64 - 1) =

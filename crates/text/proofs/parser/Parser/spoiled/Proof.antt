@@ -5,20 +5,13 @@ use Rattle.text.specs.Reading.{withField}
 use borrow.Author.Needs.{needs}
 use Rattle.text.proofs.parser.Parser.spoiled.Statement.{statement}
 use Rattle.text.proofs.parser.Parser.spoiled.Tie as tie
-use Rattle.text.proofs.parser.Parser.spoiled.Reads as reads
-use Rattle.text.proofs.parser.Parser.spoiled.Lts as lts
-use Rattle.text.proofs.field.Field.bad.Reads as bad-reads
-use Rattle.text.proofs.parser.Parser.with.Reads as with-reads
 
--- src/parser.rt:69:34
 bad-requires : tie.Need-bad-requires
 bad-requires c κs = search needs
 
--- src/parser.rt:69:9
 with-requires : tie.Need-with-requires
 with-requires c κs = search needs
 
--- src/parser.rt:66:5
 returns : tie.Need-returns
 returns c = c .with .ensures ∙ ap (λ (f : Field). withField Neither f (c .before .before .args .self)) (c .before .bad .ensures)
 
