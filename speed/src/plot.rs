@@ -13,7 +13,7 @@ const COLOURS: [&str; 3] = ["#1f5fa8", "#d9812b", "#7a7a7a"];
 const NAMES: [&str; 3] = ["ours", "plain Rust", "tuned Rust"];
 
 pub fn svg(rows: &[Row]) -> String {
-    let all = rows.iter().flat_map(|row| row.median.iter().flatten());
+    let all = rows.iter().flat_map(|row| row.best.iter().flatten());
     let greatest = all.fold(10.0f64, |greatest, &ns| greatest.max(ns));
     let decades = greatest.log10().ceil();
     let x = |ns: f64| LEFT + WIDTH * (ns.max(1.0).log10() / decades);
@@ -61,7 +61,7 @@ pub fn svg(rows: &[Row]) -> String {
             row.name
         )
         .unwrap();
-        for (j, ns) in row.median.iter().enumerate() {
+        for (j, ns) in row.best.iter().enumerate() {
             if let Some(ns) = ns {
                 write!(
                     text,
@@ -74,7 +74,7 @@ pub fn svg(rows: &[Row]) -> String {
             }
         }
         for (j, at) in [(1, right), (2, right + 76.0)] {
-            if let Some((ours, other)) = row.median[0].zip(row.median[j]) {
+            if let Some((ours, other)) = row.best[0].zip(row.best[j]) {
                 write!(text, r#"<text x="{at}" y="{}">{:.2}</text>"#, y + 16.0, ours / other).unwrap();
             }
         }
