@@ -101,7 +101,10 @@ fn main() {
         eprintln!("speed: {} differences; nothing is timed", all.differences);
         std::process::exit(1);
     }
-    eprintln!("speed: all results of {} cases are the same", all.cases.len());
+    eprintln!(
+        "speed: all results of {} cases are the same",
+        all.cases.len()
+    );
     let (rounds, least) = if smoke {
         (1, Duration::ZERO)
     } else {
@@ -131,7 +134,11 @@ fn main() {
                 .zip(["ours", "rust", "tuned"])
                 .filter_map(|(found, version)| {
                     let m = found.as_ref()?;
-                    Some(format!("{version} median {:.2}, spread {:.0}%", m.median, m.spread * 100.0))
+                    Some(format!(
+                        "{version} median {:.2}, spread {:.0}%",
+                        m.median,
+                        m.spread * 100.0
+                    ))
                 })
                 .collect();
             eprintln!("speed: {}: {}", case.name, said.join("; "));

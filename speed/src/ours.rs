@@ -4,29 +4,84 @@ use crate::kinds::*;
 
 extern "C" {
     fn host_greedy(
-        slots: *const u32, slots_len: usize, values: *const u32, values_len: usize, room: usize,
-        fates: *mut u32, fates_len: usize, whens: *mut u32, whens_len: usize, bys: *mut u32, bys_len: usize,
-        totals: *mut u32, totals_len: usize,
+        slots: *const u32,
+        slots_len: usize,
+        values: *const u32,
+        values_len: usize,
+        room: usize,
+        fates: *mut u32,
+        fates_len: usize,
+        whens: *mut u32,
+        whens_len: usize,
+        bys: *mut u32,
+        bys_len: usize,
+        totals: *mut u32,
+        totals_len: usize,
     ) -> u64;
     fn host_pg(
-        slots: *const u32, slots_len: usize, values: *const u32, values_len: usize, room: usize, num: u32, den: u32,
-        fates: *mut u32, fates_len: usize, whens: *mut u32, whens_len: usize, bys: *mut u32, bys_len: usize,
-        totals: *mut u32, totals_len: usize,
+        slots: *const u32,
+        slots_len: usize,
+        values: *const u32,
+        values_len: usize,
+        room: usize,
+        num: u32,
+        den: u32,
+        fates: *mut u32,
+        fates_len: usize,
+        whens: *mut u32,
+        whens_len: usize,
+        bys: *mut u32,
+        bys_len: usize,
+        totals: *mut u32,
+        totals_len: usize,
     ) -> u64;
     fn host_mf(
-        slots: *const u32, slots_len: usize, values: *const u32, values_len: usize, room: usize, lo: u32, hi: u32, r: usize,
-        fates: *mut u32, fates_len: usize, whens: *mut u32, whens_len: usize, bys: *mut u32, bys_len: usize,
-        totals: *mut u32, totals_len: usize,
+        slots: *const u32,
+        slots_len: usize,
+        values: *const u32,
+        values_len: usize,
+        room: usize,
+        lo: u32,
+        hi: u32,
+        r: usize,
+        fates: *mut u32,
+        fates_len: usize,
+        whens: *mut u32,
+        whens_len: usize,
+        bys: *mut u32,
+        bys_len: usize,
+        totals: *mut u32,
+        totals_len: usize,
     ) -> u64;
     fn host_plan(
-        slots: *const u32, slots_len: usize, values: *const u32, values_len: usize, room: usize,
-        fates: *mut u32, fates_len: usize, whens: *mut u32, whens_len: usize, bys: *mut u32, bys_len: usize,
-        totals: *mut u32, totals_len: usize,
+        slots: *const u32,
+        slots_len: usize,
+        values: *const u32,
+        values_len: usize,
+        room: usize,
+        fates: *mut u32,
+        fates_len: usize,
+        whens: *mut u32,
+        whens_len: usize,
+        bys: *mut u32,
+        bys_len: usize,
+        totals: *mut u32,
+        totals_len: usize,
     ) -> u64;
     fn host_audit(
-        slots: *const u32, slots_len: usize, values: *const u32, values_len: usize, room: usize,
-        fates: *const u32, fates_len: usize, whens: *const u32, whens_len: usize, bys: *const u32, bys_len: usize,
-        totals: *mut u32, totals_len: usize,
+        slots: *const u32,
+        slots_len: usize,
+        values: *const u32,
+        values_len: usize,
+        room: usize,
+        fates: *const u32,
+        fates_len: usize,
+        whens: *const u32,
+        whens_len: usize,
+        bys: *const u32,
+        bys_len: usize,
+        totals: *mut u32,
+        totals_len: usize,
     ) -> u64;
     fn host_port(events: *const u32, events_len: usize, room: usize, num: u32, den: u32) -> u64;
 }
@@ -72,7 +127,12 @@ pub fn pg(trace: &Trace, room: usize, beta: Beta, record: &mut Record) -> Answer
     run!(host_pg, trace, record, room, beta.num, beta.den)
 }
 
-pub fn mf(trace: &Trace, room: usize, (lo, hi, r): (u32, u32, usize), record: &mut Record) -> Answer {
+pub fn mf(
+    trace: &Trace,
+    room: usize,
+    (lo, hi, r): (u32, u32, usize),
+    record: &mut Record,
+) -> Answer {
     run!(host_mf, trace, record, room, lo, hi, r)
 }
 
@@ -85,9 +145,19 @@ pub fn audit(trace: &Trace, room: usize, record: &Record) -> Answer {
     // SAFETY: as above; the audit writes the totals alone.
     let code = unsafe {
         host_audit(
-            trace.slots.as_ptr(), trace.slots.len(), trace.values.as_ptr(), trace.values.len(), room,
-            record.fates.as_ptr(), record.fates.len(), record.whens.as_ptr(), record.whens.len(),
-            record.bys.as_ptr(), record.bys.len(), totals.as_mut_ptr(), totals.len(),
+            trace.slots.as_ptr(),
+            trace.slots.len(),
+            trace.values.as_ptr(),
+            trace.values.len(),
+            room,
+            record.fates.as_ptr(),
+            record.fates.len(),
+            record.whens.as_ptr(),
+            record.whens.len(),
+            record.bys.as_ptr(),
+            record.bys.len(),
+            totals.as_mut_ptr(),
+            totals.len(),
         )
     };
     answer(code, totals)

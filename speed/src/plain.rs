@@ -26,16 +26,28 @@ fn check(
         record.bys.len(),
     ];
     if lengths.iter().any(|&length| length != n) {
-        return Err(No { number: 1, place: 0 });
+        return Err(No {
+            number: 1,
+            place: 0,
+        });
     }
     if n > PACKETS {
-        return Err(No { number: 2, place: 0 });
+        return Err(No {
+            number: 2,
+            place: 0,
+        });
     }
     if !(1..=ROOM).contains(&room) {
-        return Err(No { number: 3, place: 0 });
+        return Err(No {
+            number: 3,
+            place: 0,
+        });
     }
     if !own {
-        return Err(No { number: 4, place: 0 });
+        return Err(No {
+            number: 4,
+            place: 0,
+        });
     }
     let mut before = 0;
     for (i, (&slot, &value)) in trace.slots.iter().zip(&trace.values).enumerate() {
@@ -186,12 +198,7 @@ fn end_of_slot(
     }
 }
 
-pub fn mf(
-    trace: &Trace,
-    room: usize,
-    marking: (u32, u32, usize),
-    record: &mut Record,
-) -> Answer {
+pub fn mf(trace: &Trace, room: usize, marking: (u32, u32, usize), record: &mut Record) -> Answer {
     let (lo, hi, r) = marking;
     let own = in_range(lo) && in_range(hi) && lo < hi && r <= MARKS;
     check(trace, room, record, own, |value| value == lo || value == hi)?;

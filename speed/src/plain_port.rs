@@ -49,7 +49,11 @@ impl Port {
             Ok(())
         };
         let zero = Beta { num: 0, den: 0 };
-        let (room, beta) = if made.is_ok() { (room, beta) } else { (0, zero) };
+        let (room, beta) = if made.is_ok() {
+            (room, beta)
+        } else {
+            (0, zero)
+        };
         let port = Port {
             room,
             beta,

@@ -39,7 +39,10 @@ pub fn svg(rows: &[Row]) -> String {
     }
     let right = LEFT + WIDTH + 14.0;
     line(format!(r#"<text x="{right}" y="66">ours / rust</text>"#));
-    line(format!(r#"<text x="{}" y="66">ours / tuned</text>"#, right + 76.0));
+    line(format!(
+        r#"<text x="{}" y="66">ours / tuned</text>"#,
+        right + 76.0
+    ));
     let bottom = TOP + ROW * rows.len() as f64;
     for decade in 0..=decades as i32 {
         let ns = 10f64.powi(decade);
@@ -75,7 +78,13 @@ pub fn svg(rows: &[Row]) -> String {
         }
         for (j, at) in [(1, right), (2, right + 76.0)] {
             if let Some((ours, other)) = row.best[0].zip(row.best[j]) {
-                write!(text, r#"<text x="{at}" y="{}">{:.2}</text>"#, y + 16.0, ours / other).unwrap();
+                write!(
+                    text,
+                    r#"<text x="{at}" y="{}">{:.2}</text>"#,
+                    y + 16.0,
+                    ours / other
+                )
+                .unwrap();
             }
         }
         line(text);

@@ -18,7 +18,7 @@ use Rattle.queue.specs.declared.Rule.{Rule}
 use Rattle.queue.specs.declared.Rule.the-variants.{Greedy, PG}
 use Rattle.queue.specs.declared.Choice.{Choice}
 use Rattle.queue.specs.declared.Choice.the-variants.{Hold, Reject, Lose}
-use Rattle.queue.specs.Choose.{lowestOf, newestOf, ruleOf, Sparing, overflowChoice, greedyChoice, choose, applied}
+use Rattle.queue.specs.Choose.{lowestOf, newestOf, ruleOf, overflowChoice, greedyChoice, choose, applied}
 use Rattle.queue.proofs.Loser.{arrival-loses, held-loses}
 
 module _ (values : List ℕ) (arrival : ℕ) where
@@ -111,19 +111,6 @@ module _ (beta : Beta) (arrival : ℕ) where
       min-cases _ v (lowestOf (w ∷ values)) (beta .num)
       (λ m. absurd (omega arith))
       (λ m less. rw e (omega (arith, lowest-goes (w ∷ values) (λ k. fits (suc k)) (omega arith) (omega arith)))))
-
--- where a test says no, nothing is claimed
-pub no-claim : {P : Type 0} → false ≡ true → P
-no-claim e = absurd (let z : _≡_ {A = ℕ} 0 1 = cc in omega arith)
-
--- no room, and no held value below that of the arrival, which spares its equals
-pub away : (values : List ℕ) (arrival room : ℕ) (rule : Rule) → room ≤ length values → Sparing rule arrival → arrival ≤ lowestOf values
-    → Reject ≡ choose room rule values arrival
-away values arrival room Greedy full spares low =
-    overflow-rejects values arrival low ∙ greedy-overflows values arrival room full ∙ sym (plain values arrival room)
-away values arrival room (PG beta) full spares low =
-    let none = lowest-stays beta arrival values (omega (arith, mul-le-mul-right (beta .num) low)) in
-    overflow-rejects values arrival low ∙ greedy-overflows values arrival room full ∙ sym (not-preempted values arrival room beta none)
 
 -- a queue has as many values as packets
 values-length : (queue : List Packet) → length (valuesOf queue) ≡ length queue

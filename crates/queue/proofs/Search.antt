@@ -2,15 +2,15 @@
 -- prefix), and a turn takes one value off it.
 use Prim.Native.Nat.{ℕ, zero, suc, min, _+_, _*_, _^_, _≤_, _<_}
 use mathlib.Core.Path.{_≡_, refl, ap, sym, _∙_}
-use mathlib.Core.Bool.{Bool, true, false, cond, _||_}
+use mathlib.Core.Bool.{Bool, true, false, cond}
 use mathlib.Core.List.{List, [], _∷_, _++_}
 use native.Mathlib.Numerals.{add-one}
 use native.Mathlib.Omega.{arith}
 use native.Mathlib.Nat.{lt-of-le-of-lt, mul-le-mul-left, mul-lt-mul-of-pos-right, le-of-lt}
 use lib.ListN.{length, getD, take, drop, drop-of-length-le}
 use lib.Seq.{drop-cons}
-use lib.Dec.{leb, ltb}
-use borrow.Author.Tests.{le-leb, lt-leb, lt-ltb, le-ltb, ltb-true, ltb-false, eq-eqb, ne-eqb}
+use lib.Dec.{leb}
+use borrow.Author.Tests.{le-leb, lt-leb, lt-ltb, le-ltb, eq-eqb, ne-eqb}
 use Rattle.model.specs.declared.Beta.{Beta}
 use Rattle.model.specs.Policies.PG.{preemptedAt}
 use Rattle.queue.specs.Choose.{lowestOf, newestOf}
@@ -42,35 +42,6 @@ module _ (values : List ℕ) (i : ℕ) (inside : i < length values) where
       → preemptedAt beta arrival (drop i values) ≡ suc (preemptedAt beta arrival (drop (i + 1) values))
   unfolding preemptedAt
   preempted-turn beta arrival h = rw (add-one, drop-cons values i 0, lt-leb _ _ h) refl
-
--- one value, or one of the others, is below a limit
-below-min : (v w limit : ℕ) → ltb (min v w) limit ≡ (ltb v limit || ltb w limit)
-below-min v w limit = go (ltb v limit) refl (ltb w limit) refl
-  where
-    go : (s : Bool) → ltb v limit ≡ s → (t : Bool) → ltb w limit ≡ t → ltb (min v w) limit ≡ (s || t)
-    go true e t f = lt-ltb (min v w) limit (omega (arith, ltb-true v limit e))
-    go false e true f = lt-ltb (min v w) limit (omega (arith, ltb-true w limit f))
-    go false e false f = le-ltb (min v w) limit (omega (arith, ltb-false v limit e, ltb-false w limit f))
-
-or-assoc : (a b c : Bool) → ((a || b) || c) ≡ (a || (b || c))
-or-assoc true b c = refl
-or-assoc false b c = refl
-
-or-none : (a : Bool) → (a || false) ≡ a
-or-none true = refl
-or-none false = refl
-
-pub below-turn : (values : List ℕ) (i limit : ℕ) (found : Bool) → i < length values
-    → ((found || ltb (getD values i 0) limit) || ltb (lowestOf (drop (i + 1) values)) limit) ≡ (found || ltb (lowestOf (drop i values)) limit)
-below-turn values i limit found inside =
-    or-assoc found _ _
-    ∙ ap (λ (t : Bool). found || t)
-    (sym (below-min (getD values i 0) (lowestOf (drop (i + 1) values)) limit) ∙ ap (λ (m : ℕ). ltb m limit) (sym (lowest-turn values i inside)))
-
-pub below-done : (values : List ℕ) (i limit : ℕ) (found : Bool) → length values ≤ i → limit ≤ 4294967295
-    → found ≡ (found || ltb (lowestOf (drop i values)) limit)
-below-done values i limit found h fits =
-    sym (ap (λ (t : Bool). found || t) (le-ltb (lowestOf (drop i values)) limit (omega (arith, lowest-done values i h))) ∙ or-none found)
 
 -- nothing with this value stands at place i or after it
 abbrev pub NoneFrom : ℕ → List ℕ → ℕ → Type 0

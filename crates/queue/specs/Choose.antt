@@ -1,5 +1,5 @@
 -- A rule's decision on an arrival, from the values alone, and what it makes of the queue.
-use Prim.Native.Nat.{ℕ, zero, suc, min, _-_, _*_, _<_, _^_}
+use Prim.Native.Nat.{ℕ, zero, suc, min, _-_, _^_}
 use mathlib.Core.Bool.{Bool, cond}
 use mathlib.Core.List.{List, [], _∷_, _++_}
 use lib.ListN.{length, getD}
@@ -35,11 +35,6 @@ ruleOf room (PG beta) = pgRule room beta
 abbrev pub betaPlace : Rule → ℕ → List ℕ → ℕ
 betaPlace Greedy arrival values = length values
 betaPlace (PG beta) arrival values = preemptedAt beta arrival values
-
--- an arrival does not preempt its equals
-abbrev pub Sparing : Rule → ℕ → Type 0
-Sparing Greedy arrival = Unit {0}
-Sparing (PG beta) arrival = arrival * beta .den < arrival * beta .num
 
 -- there is no room: the loser of the held packets and the arrival goes
 unfoldable pub overflowChoice : List ℕ → ℕ → Choice

@@ -1,9 +1,7 @@
 // What a policy decides of one arrival, from the values of the held packets, oldest first. No copy of the held list is made.
 ghost use mathlib.Core.Path.{_≡_};
-ghost use mathlib.Core.Bool.{true};
-ghost use lib.Dec.{ltb};
 ghost use Rattle.model.specs.Policies.PG.{preemptedAt};
-ghost use Rattle.queue.specs.Choose.{lowestOf, newestOf, Sparing, overflowChoice, greedyChoice, choose};
+ghost use Rattle.queue.specs.Choose.{lowestOf, newestOf, overflowChoice, greedyChoice, choose};
 ghost use Rattle.queue.specs.Slide.{slid};
 use model::Beta;
 use model::LossKind;
@@ -106,61 +104,14 @@ fn pg(values: &[u32], room: usize, beta: Beta, arrival: u32) -> Choice
     }
 }
 
-// Whether some value is below a limit. Nothing is decided on the way, so a turn costs less than one of the search for the lowest.
-fn below(values: &[u32], limit: u32) -> bool
-    ensures { λ r. ⌜ r ≡ ltb (lowestOf (now (values .entry))) limit ⌝ }
-{
-    let mut found = false;
-    let mut i = 0;
-    while i < values.len() {
-        found = found | (values[i] < limit);
-        i += 1;
-    }
-    found
-}
-
-// Whether an arrival leaves its equals alone, as it does where beta is above 1.
-fn spares_equals(rule: Rule, arrival: u32) -> bool
-    ensures { λ r. ⌜ (r ≡ true → Sparing rule arrival) ⌝ }
-{
-    match rule {
-        Rule::Greedy => true,
-        Rule::PG(beta) => (arrival as u64) * (beta.den as u64)
-            < (arrival as u64) * (beta.num as u64),
-    }
-}
-
-// Whether it is plain that the arrival is rejected: there is no room, and no held value is below its own.
-fn turned_away(values: &[u32], room: usize, rule: Rule, arrival: u32) -> bool
-    ensures { λ r. ⌜ (r ≡ true → Choice.Reject ≡ choose room rule (now (values .entry)) arrival) ⌝ }
-{
-    if values.len() < room {
-        return false;
-    }
-    if !spares_equals(rule, arrival) {
-        return false;
-    }
-    !below(values, arrival)
-}
-
-// The decision on an arrival that may be held.
-fn decide_by(values: &[u32], room: usize, rule: Rule, arrival: u32) -> Choice
+// The decision on an arrival.
+pub fn decide(values: &[u32], room: usize, rule: Rule, arrival: u32) -> Choice
     ensures { λ r. ⌜ r ≡ choose room rule (now (values .entry)) arrival ⌝ }
 {
     match rule {
         Rule::Greedy => greedy(values, room, arrival),
         Rule::PG(beta) => pg(values, room, beta, arrival),
     }
-}
-
-// The decision on an arrival.
-pub fn decide(values: &[u32], room: usize, rule: Rule, arrival: u32) -> Choice
-    ensures { λ r. ⌜ r ≡ choose room rule (now (values .entry)) arrival ⌝ }
-{
-    if turned_away(values, room, rule, arrival) {
-        return Choice::Reject;
-    }
-    decide_by(values, room, rule, arrival)
 }
 
 // Moves the entries from place `from` up to place `end` down to place `to`; the entries behind them stay. Where these are no such places nothing moves.

@@ -1,23 +1,45 @@
--- `queue::decide` meets its contract: either it is plain that the arrival is rejected, or the rule decides.
+use mathlib.Core.Path.{_∙_, sym, ap}
+use Rattle.queue.specs.declared.Rule.{Rule}
+use Rattle.queue.specs.Choose.{choose}
+use Rattle.queue.proofs.Choose.{plain}
 use borrow.Author.Needs.{needs}
 use Rattle.queue.proofs.decide.Statement.{statement}
 use Rattle.queue.proofs.decide.Tie as tie
 use Rattle.queue.proofs.decide.Reads as reads
 use Rattle.queue.proofs.decide.Lts as lts
-use Rattle.queue.proofs.decide_by.Reads as decide-by-reads
-use Rattle.queue.proofs.turned_away.Reads as turned-away-reads
+use Rattle.queue.proofs.greedy.Reads as greedy-reads
+use Rattle.queue.proofs.pg.Reads as pg-reads
 
-turned-away-requires : tie.Need-turned-away-requires
-turned-away-requires c κs = search needs
+-- src/lib.rt:112:25
+enum-told : tie.Need-enum-told
+enum-told c = search needs
 
+-- src/lib.rt:112:25
+greedy-requires : tie.Need-greedy-requires
+greedy-requires c κs = search needs
+
+-- src/lib.rt:113:18
+enum-known-rule : tie.Need-enum-known-rule
+enum-known-rule c = search needs
+
+-- src/lib.rt:113:27
+pg-requires : tie.Need-pg-requires
+pg-requires c κs = search needs
+
+-- src/lib.rt:108:1
 returns : tie.Need-returns
-returns c = c .before .turned-away .ensures (c .if1 .taken)
+returns c =
+    let a = c .before .before .before .before .args in
+    c .greedy .ensures
+    ∙ sym (plain (a .values .now) (a .arrival) (a .room))
+    ∙ ap (λ (rule : Rule). choose (a .room) rule (a .values .now) (a .arrival)) (sym (c .before .enum-told .given .1))
 
-decide-by-requires : tie.Need-decide-by-requires
-decide-by-requires c κs = search needs
-
+-- src/lib.rt:108:1
 returns-2 : tie.Need-returns-2
-returns-2 c = search needs
+returns-2 c =
+    let a = c .before .before .before .before .before .args in
+    c .pg .ensures ∙ ap (λ (rule : Rule). choose (a .room) rule (a .values .now) (a .arrival)) (sym (c .before .before .rule .given .1))
 
 pub decide-spec : {M : Type 1} → statement M
-decide-spec = tie.close (tie.spec turned-away-requires returns decide-by-requires returns-2)
+decide-spec =
+    tie.close (tie.spec enum-told greedy-requires enum-known-rule pg-requires returns returns-2)
