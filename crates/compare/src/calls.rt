@@ -8,12 +8,12 @@ use crate::said::say_audit;
 use crate::said::say_list;
 use crate::said::say_run;
 use audit::audit;
+use mf::calls::mf;
 use model::Beta;
 use model::RunAnswer;
+use plan::calls::plan;
 use runs::calls::greedy;
-use runs::calls::mf;
 use runs::calls::pg;
-use runs::calls::plan;
 
 // MF's lo, hi and r.
 pub struct Marks {

@@ -12,12 +12,12 @@ use crate::live::feed;
 use crate::said::say_audit;
 use crate::said::say_run;
 use audit::audit;
+use mf::calls::mf;
 use model::Beta;
+use plan::calls::plan;
 use port::Port;
 use runs::calls::greedy;
-use runs::calls::mf;
 use runs::calls::pg;
-use runs::calls::plan;
 
 // Plain greedy. Every call answers 0, or a refusal's number times 2^32 and its place, and writes its totals.
 #[no_mangle]

@@ -1,13 +1,3 @@
-// Plain greedy, PG, MF and the offline plan on a trace.
+// Plain greedy and PG on a trace: one run, two rules.
 pub mod calls;
-mod entry;
-mod flush;
-mod keep;
-mod mark;
-mod mf;
-mod order;
-mod plan;
 mod run;
-mod step;
-mod totals;
-mod window;

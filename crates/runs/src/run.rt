@@ -3,19 +3,53 @@ ghost use mathlib.Core.Path.{_≡_};
 ghost use mathlib.Core.List.{[]};
 ghost use Rattle.model.specs.Course.{byRule};
 ghost use Rattle.queue.specs.Choose.{ruleOf};
-ghost use Rattle.runs.specs.Entry.{lists};
-ghost use Rattle.runs.specs.Run.{Runnable, Ran};
-use crate::step::send_until;
-use crate::step::take;
-use crate::window::Window;
+ghost use Prim.Native.Nat.{_-_, _<_};
+ghost use lib.ListN.{length};
+ghost use Rattle.steps.specs.Window.{windowOf, Within};
+ghost use Rattle.steps.specs.Step.{Stepped, arrival, turning};
+ghost use Rattle.steps.specs.Entry.{lists};
+ghost use Rattle.steps.specs.Run.{Runnable, Ran};
 use model::Packet;
 use model::PacketNumber;
 use model::Slot;
-use port::Port;
 use queue::Rule;
+use steps::PLACES;
+use steps::Window;
+use steps::moves::arrive;
+use steps::moves::send_until;
 
-// The places of the two lists that hold the queue: with twice the greatest room it moves to the start of its lists at most once in so many arrivals.
-pub const PLACES: usize = 2 * Port::ROOM;
+// One packet of a trace: the ends of the slots before its own, then its arrival.
+fn take(
+    numbers: &mut [u32],
+    values: &mut [u32],
+    fates: &mut [u32],
+    whens: &mut [u32],
+    bys: &mut [u32],
+    w: Window,
+    room: usize,
+    rule: Rule,
+    before: Slot,
+    slot: Slot,
+    p: Packet,
+) -> Window
+    requires { ⌜ Within w (now numbers) (now values) ⌝ }
+    requires { ⌜ w .tail - w .head < length (now values) ⌝ }
+    ensures { λ r. ⌜ Stepped (turning (ruleOf room rule) before (arrival slot p) (windowOf w (now (numbers .entry)) (now (values .entry)))) (lists (now (fates .entry)) (now (whens .entry)) (now (bys .entry))) r (now (numbers .exit)) (now (values .exit)) (lists (now (fates .exit)) (now (whens .exit)) (now (bys .exit))) ⌝ }
+{
+    let left = send_until(numbers, values, fates, whens, bys, w, before, slot);
+    arrive(
+        numbers,
+        values,
+        fates,
+        whens,
+        bys,
+        left,
+        room,
+        rule,
+        slot,
+        p,
+    )
+}
 
 // Writes the record of a rule's run, and answers the most held just after any arrival: the greatest length of the queue.
 pub fn run(

@@ -19,8 +19,8 @@ use Rattle.model.specs.Packets.{arrivals}
 use Rattle.model.specs.Record.{Lists, rows}
 use Rattle.model.specs.Answers.{causeNumber}
 use Rattle.model.specs.Calls.{Outcome, pgCall}
-use Rattle.runs.specs.Entry.{lists}
-use Rattle.runs.specs.Calls.{outcome}
+use Rattle.steps.specs.Entry.{lists}
+use Rattle.steps.specs.Calls.{outcome}
 use Rattle.text.specs.Input.{trace}
 use Rattle.text.specs.Output.{recordHeader, rowLines, refusalText}
 use Rattle.text.specs.Bench.{benchRoom, benchBeta, saidOf, outputBy}

@@ -5,7 +5,7 @@ use Rattle.host.proofs.host_mf.Tie as tie
 use Rattle.host.proofs.host_mf.Reads as reads
 use Rattle.host.proofs.host_mf.Lts as lts
 use Rattle.host.proofs.said.say_run.Reads as say-run-reads
-use Rattle.runs.proofs.calls.mf.Reads as mf-reads
+use Rattle.mf.proofs.calls.mf.Reads as mf-reads
 
 mf-requires : tie.Need-mf-requires
 mf-requires c κs = search needs

@@ -1,47 +1,36 @@
 use mathlib.Core.Path.{sym, ap, _∙_}
 use Rattle.model.specs.Calls.{pgCall}
 use Rattle.trace.specs.Checked.{verdictOf}
-use Rattle.runs.proofs.Answering.{refused, not-refused, pg-ready}
+use Rattle.steps.proofs.Answering.{refused, not-refused}
+use Rattle.runs.proofs.Ready.{pg-ready}
 use borrow.Author.Needs.{needs}
 use Rattle.runs.proofs.calls.pg.Statement.{statement}
 use Rattle.runs.proofs.calls.pg.Tie as tie
-use Rattle.runs.proofs.calls.pg.Reads as reads
-use Rattle.runs.proofs.calls.pg.Lts as lts
-use Rattle.runs.proofs.calls.finish.Reads as finish-reads
-use Rattle.trace.proofs.pg.Reads as pg-reads
 
--- src/calls.rt:40:11
 pg-requires : tie.Need-pg-requires
 pg-requires c κs = search needs
 
--- src/calls.rt:41:26
 enum-known-refusal : tie.Need-enum-known-refusal
 enum-known-refusal c = search needs
 
--- src/calls.rt:42:58
 enum-told : tie.Need-enum-told
 enum-told c = search needs
 
--- src/calls.rt:42:30
 finish-requires : tie.Need-finish-requires
 finish-requires c κs =
     let a = c .before .before .before .before .before .before .before .before .before .before .before .before .before .before .args in
     let accepted = ap verdictOf (sym (c .before .before .before .enum-told .given .1)) ∙ c .before .before .before .before .before .pg .ensures in
     pg-ready (a .slots .now) (a .values .now) (a .room) _ (a .beta) accepted
 
--- src/calls.rt:37:1
 same-length : tie.Need-same-length
 same-length c = search needs
 
--- src/calls.rt:37:1
 same-length-2 : tie.Need-same-length-2
 same-length-2 c = search needs
 
--- src/calls.rt:37:1
 same-length-3 : tie.Need-same-length-3
 same-length-3 c = search needs
 
--- src/calls.rt:37:1
 returns : tie.Need-returns
 unfolding pgCall
 returns c =
@@ -49,19 +38,15 @@ returns c =
     let told = c .before .refusal in
     refused _ _ _ (told .given .0 .0) (ap verdictOf (sym (told .given .1)) ∙ c .before .before .before .pg .ensures)
 
--- src/calls.rt:37:1
 same-length-4 : tie.Need-same-length-4
 same-length-4 c = search needs
 
--- src/calls.rt:37:1
 same-length-5 : tie.Need-same-length-5
 same-length-5 c = search needs
 
--- src/calls.rt:37:1
 same-length-6 : tie.Need-same-length-6
 same-length-6 c = search needs
 
--- src/calls.rt:37:1
 returns-2 : tie.Need-returns-2
 unfolding pgCall
 returns-2 c =

@@ -2,17 +2,14 @@ use Prim.Native.Nat.{max, _-_}
 use mathlib.Core.Path.{_≡_, refl, _∙_}
 use mathlib.Core.Logic.{⊎-elim}
 use native.Mathlib.Omega.{arith}
+use Rattle.steps.proofs.Guarding.{passed, within-lies}
 use borrow.Author.Needs.{needs}
 use lib.ListN.{length}
 use Rattle.queue.specs.Choose.{ruleOf}
-use Rattle.runs.specs.Entry.{lists}
-use Rattle.runs.proofs.Running.{Going, going-start, going-free, most-fits, going-turn, going-end}
+use Rattle.steps.specs.Entry.{lists}
+use Rattle.steps.proofs.Running.{Going, going-start, going-free, most-fits, going-turn, going-end}
 use Rattle.runs.proofs.run.run.Statement.{statement}
 use Rattle.runs.proofs.run.run.Tie as tie
-use Rattle.runs.proofs.run.run.Reads as reads
-use Rattle.runs.proofs.run.run.Lts as lts
-use Rattle.runs.proofs.step.send_until.Reads as send-until-reads
-use Rattle.runs.proofs.step.take.Reads as take-reads
 
 abbrev Inv-loop : tie.InvT-loop
 Inv-loop slots values room rule fates₀ whens₀ bys₀ numbers₀ held₀ head₀ tail₀ last₀ most₀ i₀ fates whens bys numbers held head tail last most i =
@@ -24,65 +21,50 @@ Inv-loop slots values room rule fates₀ whens₀ bys₀ numbers₀ held₀ head
 abbrev μ-loop : tie.MeasureT-loop
 μ-loop slots values room rule fates₀ whens₀ bys₀ numbers₀ held₀ head₀ tail₀ last₀ most₀ i₀ fates whens bys numbers held head tail last most i = length slots - i
 
--- src/run.rt:29:5
 loop-holds : tie.Need-loop-holds Inv-loop μ-loop
 loop-holds c =
     let a = c .before .before .before .before .before .args in
     (refl, refl, refl, going-start (ruleOf (a .room) (a .rule)) (a .slots .now) (a .values .now) _ _ _ (search needs) (search needs))
 
--- src/run.rt:30:20
 mul-slot : tie.Need-mul-slot Inv-loop μ-loop
 mul-slot c = search needs
 
--- src/run.rt:30:20
 shared-slice-read-slot : tie.Need-shared-slice-read-slot Inv-loop μ-loop
 shared-slice-read-slot c = search needs
 
--- src/run.rt:32:35
 add-t18 : tie.Need-add-t18 Inv-loop μ-loop
 add-t18 c = search needs
 
--- src/run.rt:32:34
 cast-t21 : tie.Need-cast-t21 Inv-loop μ-loop
 cast-t21 c = search needs
 
--- src/run.rt:33:20
 mul-t23 : tie.Need-mul-t23 Inv-loop μ-loop
 mul-t23 c = search needs
 
--- src/run.rt:33:20
 shared-slice-read-t25 : tie.Need-shared-slice-read-t25 Inv-loop μ-loop
 shared-slice-read-t25 c = search needs
 
--- src/run.rt:35:22
 slice-aggregate-take : tie.Need-slice-aggregate-take Inv-loop μ-loop
 slice-aggregate-take c = search needs
 
--- src/run.rt:35:36
 slice-aggregate-take-2 : tie.Need-slice-aggregate-take-2 Inv-loop μ-loop
 slice-aggregate-take-2 c = search needs
 
--- src/run.rt:35:13
 take-requires : tie.Need-take-requires Inv-loop μ-loop
 take-requires c κs = search needs
 
--- src/run.rt:38:19
 sub-if1 : tie.Need-sub-if1 Inv-loop μ-loop
 sub-if1 c = search needs
 
--- src/run.rt:39:20
 sub-most : tie.Need-sub-most Inv-loop μ-loop
 sub-most c = search needs
 
--- src/run.rt:42:9
 add-i : tie.Need-add-i Inv-loop μ-loop
 add-i c = search needs
 
--- src/run.rt:29:5
 loop-less : tie.Need-loop-less Inv-loop μ-loop
 loop-less c = search needs
 
--- src/run.rt:29:5
 loop-again : tie.Need-loop-again Inv-loop μ-loop
 loop-again c =
     let start = c .before .before .before .before .before .before .before .before .before .before .before .before .before .before .before .before .before .before .before .before .before .before .before .before in
@@ -97,47 +79,36 @@ loop-again c =
           (loop .loop .i) _ (loop .loop .inv .3) (c .before .before .before .before .before .before .before .before .before .before .before .before .before .before .before .before .before .loop-test .taken) (taken .result) (taken .last .0) (taken .last .1 .0) _ (c .if1 .most) (taken .ensures) (taken .kept .1 .0) most,
     )
 
--- src/run.rt:44:16
 slice-aggregate-send-until : tie.Need-slice-aggregate-send-until Inv-loop μ-loop
 slice-aggregate-send-until c = search needs
 
--- src/run.rt:44:26
 slice-aggregate-send-until-2 : tie.Need-slice-aggregate-send-until-2 Inv-loop μ-loop
 slice-aggregate-send-until-2 c = search needs
 
--- src/run.rt:44:100
 sub-t52 : tie.Need-sub-t52 Inv-loop μ-loop
 sub-t52 c = search needs
 
--- src/run.rt:44:99
 cast-t53 : tie.Need-cast-t53 Inv-loop μ-loop
 cast-t53 c = search needs
 
--- src/run.rt:44:92
 add-t54 : tie.Need-add-t54 Inv-loop μ-loop
 add-t54 c = search needs
 
--- src/run.rt:44:5
 send-until-requires : tie.Need-send-until-requires Inv-loop μ-loop
 send-until-requires c κs = search needs
 
--- src/run.rt:45:5
 cast-result : tie.Need-cast-result Inv-loop μ-loop
 cast-result c = search needs
 
--- src/run.rt:18:1
 same-length : tie.Need-same-length Inv-loop μ-loop
 same-length c = search needs
 
--- src/run.rt:18:1
 same-length-2 : tie.Need-same-length-2 Inv-loop μ-loop
 same-length-2 c = search needs
 
--- src/run.rt:18:1
 same-length-3 : tie.Need-same-length-3 Inv-loop μ-loop
 same-length-3 c = search needs
 
--- src/run.rt:18:1
 returns : tie.Need-returns Inv-loop μ-loop
 returns c =
     let start = c .before .before .before .before .before .before .before .before .before .before .before .before .before .before .before .before .before .before .before in
@@ -145,7 +116,7 @@ returns c =
     let sent = c .before .before .before .before .before .before .send-until in
     let a = start .args in
     going-end (ruleOf (a .room) (a .rule)) (a .slots .now) (a .values .now) _ (start .pre) _ _ (loop .loop .head) (loop .loop .tail) (loop .loop .last) (loop .loop .most) (loop .loop .i) _
-    (loop .loop .inv .3) (c .before .before .before .before .before .before .before .before .before .before .before .before .loop-test .left) (sent .result) _ _ refl (sent .ensures)
+    (loop .loop .inv .3) (c .before .before .before .before .before .before .before .before .before .before .before .before .loop-test .left) (sent .result) _ _ refl (passed _ _ _ (within-lies _ _ _ (loop .loop .inv .3 .within)) (sent .ensures))
 
 pub run-spec : {M : Type 1} → statement M
 run-spec =

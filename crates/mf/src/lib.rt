@@ -1,0 +1,5 @@
+// MF on a trace.
+pub mod calls;
+mod flush;
+mod mark;
+mod mf;

@@ -1,0 +1,3 @@
+pub mod Order
+pub mod Keep
+pub mod Plan

@@ -1,0 +1,153 @@
+-- A call's answer: the totals counted from the fates are the totals of the record's rows, and a refusal or a run is what model's call says of the verdict.
+use Prim.Native.Nat.{ℕ, suc, _+_, _≤_}
+use mathlib.Core.Path.{_≡_, refl, sym, ap, ap₂, subst, _∙_}
+use mathlib.Core.Bool.{Bool, true, false, cond}
+use mathlib.Core.List.{List, [], _∷_}
+use native.Mathlib.Omega.{arith}
+use lib.ListN.{length, getD}
+use lib.Dec.{eqb}
+use Rattle.model.specs.declared.Fate.{Fate}
+use Rattle.model.specs.declared.Fate.the-variants.{Sent, Rejected, PushedOut, Preempted, Flushed}
+use Rattle.model.specs.declared.Totals.{Totals}
+use Rattle.model.specs.declared.Cause.{Cause}
+use Rattle.model.specs.declared.Cause.the-variants as causes
+use Rattle.model.specs.declared.Refusal.{Refusal}
+use Rattle.model.specs.declared.RunAnswer.the-variants.{Ran, Refused}
+use Rattle.model.specs.Limits.{recordLimits}
+use Rattle.model.specs.Packets.{arrivalsFrom, arrivals}
+use Rattle.model.specs.Record.{Entry, Lists, entered, recordOf, rowsOf, rows, fateNumber}
+use Rattle.model.specs.Rules.{Verdict, clear, hasFate, countOf}
+use Rattle.model.specs.Totals.{valueOf, tally, totalsOf}
+use Rattle.model.specs.Course.{Policy, byRule, course, first}
+use Rattle.model.specs.Refusals.{valueOk}
+use Rattle.model.specs.Answers.{causeNumber}
+use Rattle.model.specs.Calls.{Outcome, ran, runUnless}
+use Rattle.laws.proofs.WellFormed.{WellFormed}
+use Rattle.laws.proofs.Lawful.{Lawful}
+use Rattle.laws.proofs.Held.{mostQueue}
+use Rattle.trace.specs.Tested.{Tested}
+use Rattle.trace.proofs.Accepted.{within-to}
+use Rattle.steps.specs.Totals.{countIn, sumIn, Countable, tallyBy, totalsBy}
+use Rattle.steps.specs.Calls.{outcome, Ready}
+use Rattle.steps.proofs.Counting.{fate-six}
+
+-- three lists as long as the trace
+abbrev Long : List ℕ → List ℕ → List ℕ → List ℕ → Type 0
+Long slots fates whens bys = (length fates ≡ length slots) × (length whens ≡ length slots) × (length bys ≡ length slots)
+
+count-rows : (f : Fate) (n : ℕ) (slots values fates whens bys : List ℕ) → length values ≡ length slots → Long slots fates whens bys
+    → countOf (hasFate f) (rowsOf (arrivalsFrom n slots values) fates whens bys) ≡ countIn (fateNumber f) fates
+unfolding countOf hasFate rowsOf arrivalsFrom countIn
+count-rows f n [] values [] whens bys same long = refl
+count-rows f n [] values (g ∷ fates) whens bys same long = absurd (omega arith)
+count-rows f n (s ∷ slots) [] fates whens bys same long = absurd (omega arith)
+count-rows f n (s ∷ slots) (v ∷ values) [] whens bys same long = absurd (omega arith)
+count-rows f n (s ∷ slots) (v ∷ values) (g ∷ fates) [] bys same long = absurd (omega arith)
+count-rows f n (s ∷ slots) (v ∷ values) (g ∷ fates) (w ∷ whens) [] same long = absurd (omega arith)
+count-rows f n (s ∷ slots) (v ∷ values) (g ∷ fates) (w ∷ whens) (b ∷ bys) same long =
+    ap (λ (k : ℕ). cond (eqb g (fateNumber f)) 1 0 + k) (count-rows f (suc n) slots values fates whens bys (omega arith) (omega arith))
+
+value-rows : (f : Fate) (n : ℕ) (slots values fates whens bys : List ℕ) → length values ≡ length slots → Long slots fates whens bys
+    → valueOf (hasFate f) (rowsOf (arrivalsFrom n slots values) fates whens bys) ≡ sumIn (fateNumber f) values fates
+unfolding valueOf hasFate rowsOf arrivalsFrom sumIn
+value-rows f n [] values [] whens bys same long = refl
+value-rows f n [] values (g ∷ fates) whens bys same long = absurd (omega arith)
+value-rows f n (s ∷ slots) [] fates whens bys same long = absurd (omega arith)
+value-rows f n (s ∷ slots) (v ∷ values) [] whens bys same long = absurd (omega arith)
+value-rows f n (s ∷ slots) (v ∷ values) (g ∷ fates) [] bys same long = absurd (omega arith)
+value-rows f n (s ∷ slots) (v ∷ values) (g ∷ fates) (w ∷ whens) [] same long = absurd (omega arith)
+value-rows f n (s ∷ slots) (v ∷ values) (g ∷ fates) (w ∷ whens) (b ∷ bys) same long =
+    ap (λ (k : ℕ). cond (eqb g (fateNumber f)) v 0 + k) (value-rows f (suc n) slots values fates whens bys (omega arith) (omega arith))
+
+module _ {S : Type 0} (P : Policy S) (s : S) (slots values : List ℕ) (lists : Lists) (R : Ready P s slots values lists) where
+  abbrev entries : List Entry
+  entries = course P first s (arrivals slots values)
+
+  abbrev written : Lists
+  written = recordOf (length slots) entries
+
+  pub all-written : (after : Lists) → after ≡ entered entries lists → after ≡ written
+  all-written after e = e ∙ R .formed .all-written lists (R .sized)
+
+  pub countable : (after : Lists) → after ≡ written → Countable values (after .fates)
+  countable after e =
+      subst (λ (l : Lists). Countable values (l .fates)) (sym e)
+      (record {
+        same = R .same ∙ sym (R .formed .sized .fates);
+        few = rw (R .formed .sized .fates) (R .few);
+        fates-fit = λ k h.
+            let f = R .formed .fate k (rw (R .formed .sized .fates) at h) in
+            rw (f .1) (fate-six (f .0));
+        values-fit = R .values-fit;
+      })
+
+  tally-rows : (f : Fate) → tally (hasFate f) (rows (arrivals slots values) written) ≡ tallyBy values (written .fates) f
+  tally-rows f =
+      let long : Long slots (written .fates) (written .whens) (written .bys) = (R .formed .sized .fates, R .formed .sized .whens, R .formed .sized .bys) in
+      ap₂ (λ (c v : ℕ). record { count = c; value = v })
+      (count-rows f 1 slots values (written .fates) (written .whens) (written .bys) (R .same) long)
+      (value-rows f 1 slots values (written .fates) (written .whens) (written .bys) (R .same) long)
+
+  totals-rows : totalsOf (rows (arrivals slots values) written) ≡ totalsBy values (written .fates) (mostQueue P first s (arrivals slots values))
+  totals-rows =
+      let count = R .formed .arrived-count ∙ sym (R .formed .sized .fates) in
+      let value = R .formed .arrived-value in
+      let sent = tally-rows Sent in
+      let rejected = tally-rows Rejected in
+      let out = tally-rows PushedOut in
+      let preempted = tally-rows Preempted in
+      let flushed = tally-rows Flushed in
+      let most = R .most in
+      λ k.
+      record {
+        arrived = record { count = count k; value = value k };
+        sent = sent k;
+        rejected = rejected k;
+        «pushed_out» = out k;
+        preempted = preempted k;
+        flushed = flushed k;
+        «most_held» = most k;
+      }
+
+  pub answered : (after : Lists) → after ≡ written → (most : ℕ) → most ≡ mostQueue P first s (arrivals slots values)
+      → (t : Totals) → t ≡ totalsBy values (after .fates) most → outcome (Ran t) after ≡ ran slots values entries
+  answered after e most m t k =
+      let same : t ≡ totalsOf (rows (arrivals slots values) written) =
+      k ∙ ap₂ (λ (l : Lists) (n : ℕ). totalsBy values (l .fates) n) e m ∙ sym totals-rows in
+      ap₂ (λ (u : Totals) (l : Lists). outcome (Ran u) l) same e
+
+-- a refusal's number is not 0
+cause-refuses : (cause : Cause) → eqb (causeNumber cause) 0 ≡ false
+cause-refuses causes.Lengths = refl
+cause-refuses causes.Packets = refl
+cause-refuses causes.Room = refl
+cause-refuses causes.Parameters = refl
+cause-refuses causes.Slot = refl
+cause-refuses causes.Value = refl
+cause-refuses causes.Spent = refl
+cause-refuses causes.Unsound = refl
+cause-refuses causes.Text = refl
+
+pub refused : (v : Verdict) (lists : Lists) (done : Outcome) (f : Refusal) → record { number = causeNumber (f .cause); place = f .place } ≡ v
+    → outcome (Refused f) lists ≡ runUnless v lists done
+unfolding runUnless
+refused v lists done f e = rw (← e, cause-refuses (f .cause)) refl
+
+pub not-refused : (v : Verdict) (lists : Lists) (done : Outcome) → clear ≡ v → done ≡ runUnless v lists done
+unfolding runUnless
+not-refused v lists done e = rw (← e) refl
+
+pub ready : {S : Type 0} (P : Policy S) (s : S) (ok : ℕ → Bool) → ((v : ℕ) → ok v ≡ true → valueOk v ≡ true)
+    → (slots values : List ℕ) (room : ℕ) (lists : Lists) → Tested ok slots values room lists
+    → WellFormed slots values (course P first s (arrivals slots values)) → Lawful P s slots values room → Ready P s slots values lists
+ready P s ok in-range slots values room lists T W L =
+    record {
+      same = T .values-length;
+      few = T .few;
+      slots-fit = T .packets .slot-to;
+      values-fit = λ k h. within-to 1 (recordLimits .value) (getD values k 0) (in-range (getD values k 0) (T .packets .taken k (rw (T .values-length) at h)));
+      sized = record { fates = T .fates-length; whens = T .whens-length; bys = T .bys-length };
+      short = omega (arith, L .within-room, T .room-to);
+      formed = W;
+      most = L .most;
+    }

@@ -1,0 +1,49 @@
+-- What the test of a window tells, and how a promise for all input is given and used.
+use Prim.Native.Nat.{ℕ, _-_, _<_}
+use mathlib.Core.Path.{_≡_, refl, sym, subst}
+use mathlib.Core.Bool.{Bool, true, false, _&&_}
+use mathlib.Core.List.{List}
+use lib.ListN.{length}
+use lib.Dec.{eqb, leb, ltb}
+use borrow.Author.Tests.{ltb-true, leb-true, eqb-true, lt-ltb, le-leb, eq-eqb}
+use Rattle.trace.proofs.Laws.{left-part, right-part}
+use Rattle.steps.specs.declared.Window.{Window}
+use Rattle.steps.specs.Window.{Within}
+use Rattle.steps.specs.Guarded.{Guarded, liesWithin, hasPlace}
+
+module _ (test : Bool) (P F : Type 0) where
+  pub by-pass : test ≡ true → P → Guarded test P F
+  by-pass e p = rw e p
+
+  pub by-fail : test ≡ false → F → Guarded test P F
+  by-fail e f = rw e f
+
+  pub passed : test ≡ true → Guarded test P F → P
+  passed e g = subst (λ (b : Bool). Guarded b P F) e g
+
+module _ (w : Window) (numbers values : List ℕ) where
+  pub within-lies : Within w numbers values → liesWithin w numbers values ≡ true
+  unfolding liesWithin
+  within-lies W = simp (le-leb _ _ (W .ordered), le-leb _ _ (W .inside), eq-eqb _ _ (W .same))
+
+  pub lies-within : liesWithin w numbers values ≡ true → Within w numbers values
+  unfolding liesWithin
+  lies-within e =
+      let rest = right-part (leb (w .head) (w .tail)) (leb (w .tail) (length values) && eqb (length numbers) (length values)) e in
+      record {
+        ordered = leb-true _ _ (left-part (leb (w .head) (w .tail)) (leb (w .tail) (length values) && eqb (length numbers) (length values)) e);
+        inside = leb-true _ _ (left-part (leb (w .tail) (length values)) (eqb (length numbers) (length values)) rest);
+        same = eqb-true _ _ (right-part (leb (w .tail) (length values)) (eqb (length numbers) (length values)) rest);
+      }
+
+  pub free-place : Within w numbers values → w .tail - w .head < length values → hasPlace w numbers values ≡ true
+  unfolding hasPlace
+  free-place W free = simp (within-lies W, lt-ltb _ _ free)
+
+  pub place-within : hasPlace w numbers values ≡ true → Within w numbers values
+  unfolding hasPlace
+  place-within e = lies-within (left-part (liesWithin w numbers values) (ltb (w .tail - w .head) (length values)) e)
+
+  pub place-free : hasPlace w numbers values ≡ true → w .tail - w .head < length values
+  unfolding hasPlace
+  place-free e = ltb-true _ _ (right-part (liesWithin w numbers values) (ltb (w .tail - w .head) (length values)) e)

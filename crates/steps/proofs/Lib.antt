@@ -1,0 +1,10 @@
+pub mod Windows
+pub mod Guarding
+pub mod Sending
+pub mod Arriving
+pub mod Turning
+pub mod Counting
+pub mod Places
+pub mod Coursing
+pub mod Running
+pub mod Answering

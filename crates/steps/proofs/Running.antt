@@ -1,0 +1,63 @@
+-- The loop over the packets under a rule: the state is the queue that the window holds.
+use Prim.Native.Nat.{ℕ, max, _+_, _-_, _*_, _<_, _≤_}
+use mathlib.Core.Path.{_≡_, refl, ap, subst, _∙_}
+use mathlib.Core.List.{List, []}
+use native.Mathlib.Omega.{arith}
+use lib.ListN.{length, getD}
+use Rattle.model.specs.declared.Packet.{Packet}
+use Rattle.model.specs.declared.Slot.{Slot}
+use Rattle.model.specs.Limits.{portLimits}
+use Rattle.model.specs.Packets.{slotsUntil}
+use Rattle.model.specs.Record.{Lists, entered}
+use Rattle.model.specs.Course.{Step, Decided, byRule, slotEnds}
+use Rattle.steps.specs.declared.Window.{Window}
+use Rattle.steps.specs.Window.{windowOf}
+use Rattle.steps.specs.Step.{Stepped, sending, turning}
+use Rattle.steps.specs.Run.{Runnable, Ran}
+use Rattle.steps.specs.Places.{packetAt}
+use Rattle.steps.proofs.Windows.{window}
+use Rattle.steps.proofs.Turning.{sending-is, turning-is}
+use Rattle.steps.proofs.Coursing.{at, Coursing, coursing-all, coursing-free, coursing-most, coursing-turn, coursing-end}
+
+module _ (rule : List Packet → Packet → Decided) (slots values : List ℕ) (before : Lists) where
+  abbrev pub Going : List ℕ → List ℕ → ℕ → ℕ → ℕ → ℕ → ℕ → Lists → Type 0
+  Going numbers held head tail last most i now =
+      Coursing (byRule rule) [] slots values before (windowOf (window head tail) numbers held) numbers held head tail last most i now
+
+  pub going-start : (numbers held : List ℕ) → length numbers ≡ 2 * portLimits .room → length held ≡ 2 * portLimits .room → Going numbers held 0 0 1 0 0 before
+  going-start numbers held n h =
+      let C = coursing-all (byRule rule) [] slots values before refl numbers held n h in
+      subst (λ (queue : List Packet). Coursing (byRule rule) [] slots values before queue numbers held 0 0 1 0 0 before) (C .queue) C
+
+  module _ (R : Runnable (byRule rule) [] slots values) (numbers held : List ℕ) (head tail last most i : ℕ) (now : Lists) (G : Going numbers held head tail last most i now) where
+    abbrev queue : List Packet
+    queue = windowOf (window head tail) numbers held
+
+    pub going-free : tail - head < length held
+    going-free = coursing-free (byRule rule) [] slots values before R queue numbers held head tail last most i now G
+
+    pub most-fits : most ≤ portLimits .room
+    most-fits = coursing-most (byRule rule) [] slots values before R queue numbers held head tail last most i now G
+
+    pub going-turn : i < length slots
+        → (w : Window) (numbers′ held′ : List ℕ) (after : Lists) (most′ : ℕ)
+        → Stepped (turning rule (at last) (packetAt slots values i) queue) now w numbers′ held′ after
+        → length held′ ≡ length held → most′ ≡ max most (w .tail - w .head)
+        → Going numbers′ held′ (w .head) (w .tail) (getD slots i 0) most′ (i + 1) after
+    going-turn some w numbers′ held′ after most′ S kept m =
+        let is = turning-is rule (at last) (packetAt slots values i) queue in
+        coursing-turn (byRule rule) [] slots values before R queue numbers held head tail last most i now G some
+        (windowOf w numbers′ held′) w numbers′ held′ after most′ (S .within) refl
+        (S .queue ∙ ap (λ (s : Step (List Packet)). s .next) is)
+        (S .written ∙ ap (λ (s : Step (List Packet)). entered (s .entries) now) is)
+        kept m
+
+    pub going-end : length slots ≤ i → (w : Window) (after : Lists) (until : Slot) → until .0 ≡ last + (tail - head)
+        → Stepped (sending (at last) until queue) now w numbers held after
+        → Ran (byRule rule) [] slots values before after most
+    going-end done w after until u S =
+        let n : slotsUntil (at last) until ≡ tail - head = omega arith in
+        let is : sending (at last) until queue ≡ slotEnds (byRule rule) (tail - head) (at last) queue =
+        sending-is rule (at last) until queue ∙ ap (λ (k : ℕ). slotEnds (byRule rule) k (at last) queue) n in
+        coursing-end (byRule rule) [] slots values before R queue numbers held head tail last most i now G done after
+        (S .written ∙ ap (λ (s : Step (List Packet)). entered (s .entries) now) is)

@@ -1,0 +1,35 @@
+use native.Mathlib.Omega.{arith}
+use Rattle.steps.proofs.Windows.{opened}
+use borrow.Author.Needs.{needs}
+use Rattle.steps.proofs.held.freed.Statement.{statement}
+use Rattle.steps.proofs.held.freed.Tie as tie
+
+returns : tie.Need-returns
+returns c = search needs
+
+slide-requires : tie.Need-slide-requires
+slide-requires c κs = search needs
+
+slide-requires-2 : tie.Need-slide-requires-2
+slide-requires-2 c κs = search needs
+
+sub-t6 : tie.Need-sub-t6
+sub-t6 c = search needs
+
+same-length : tie.Need-same-length
+same-length c = search needs
+
+same-length-2 : tie.Need-same-length-2
+same-length-2 c = search needs
+
+returns-2 : tie.Need-returns-2
+returns-2 c =
+    let start = c .before .before .before .before .before .before .before .before .before .before .before in
+    let a = start .args in
+    rw (c .before .before .before .before .before .before .slide .ensures, c .before .before .slide2 .ensures)
+    (opened (a .w) (a .numbers .now) (a .values .now) (start .pre .0) (start .pre .1) (omega arith))
+
+pub freed-spec : {M : Type 1} → statement M
+freed-spec =
+    tie.close
+    (tie.spec returns slide-requires slide-requires-2 sub-t6 same-length same-length-2 returns-2)

@@ -1,0 +1,49 @@
+use Rattle.steps.proofs.Windows.{stored}
+use borrow.Author.Needs.{needs}
+use Rattle.steps.proofs.held.hold.Statement.{statement}
+use Rattle.steps.proofs.held.hold.Tie as tie
+
+freed-requires : tie.Need-freed-requires
+freed-requires c κs = search needs
+
+mul-numbers : tie.Need-mul-numbers
+mul-numbers c = search needs
+
+slice-write-numbers : tie.Need-slice-write-numbers
+slice-write-numbers c = search needs
+
+mul-values : tie.Need-mul-values
+mul-values c = search needs
+
+slice-write-values : tie.Need-slice-write-values
+slice-write-values c = search needs
+
+add-t12 : tie.Need-add-t12
+add-t12 c = search needs
+
+same-length : tie.Need-same-length
+same-length c = search needs
+
+same-length-2 : tie.Need-same-length-2
+same-length-2 c = search needs
+
+returns : tie.Need-returns
+returns c =
+    let freed = c .before .before .before .before .freed in
+    let a = c .before .before .before .before .before .before .before .before .before .args in
+    let done = stored (freed .result) (freed .last .0) (freed .last .1 .0) (a .p) (freed .ensures .within) (freed .ensures .free) in
+    rw (freed .ensures .queue) at done
+
+pub hold-spec : {M : Type 1} → statement M
+hold-spec =
+    tie.close
+    (tie.spec
+    freed-requires
+    mul-numbers
+    slice-write-numbers
+    mul-values
+    slice-write-values
+    add-t12
+    same-length
+    same-length-2
+    returns)

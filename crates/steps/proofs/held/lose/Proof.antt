@@ -1,0 +1,49 @@
+use Rattle.steps.proofs.Windows.{taken-out}
+use borrow.Author.Needs.{needs}
+use Rattle.steps.proofs.held.lose.Statement.{statement}
+use Rattle.steps.proofs.held.lose.Tie as tie
+
+add-at : tie.Need-add-at
+add-at c = search needs
+
+add-slide : tie.Need-add-slide
+add-slide c = search needs
+
+slide-requires : tie.Need-slide-requires
+slide-requires c κs = search needs
+
+add-slide-2 : tie.Need-add-slide-2
+add-slide-2 c = search needs
+
+slide-requires-2 : tie.Need-slide-requires-2
+slide-requires-2 c κs = search needs
+
+sub-t10 : tie.Need-sub-t10
+sub-t10 c = search needs
+
+same-length : tie.Need-same-length
+same-length c = search needs
+
+same-length-2 : tie.Need-same-length-2
+same-length-2 c = search needs
+
+returns : tie.Need-returns
+returns c =
+    let start = c .before .before .before .before .before .before .before .before .before .before .before in
+    let a = start .args in
+    rw (c .before .before .before .before .before .before .slide .ensures, c .before .before .slide2 .ensures)
+    (taken-out (a .w) (a .numbers .now) (a .values .now) (a .place) (start .pre .0) (start .pre .1))
+
+pub lose-spec : {M : Type 1} → statement M
+lose-spec =
+    tie.close
+    (tie.spec
+    add-at
+    add-slide
+    slide-requires
+    add-slide-2
+    slide-requires-2
+    sub-t10
+    same-length
+    same-length-2
+    returns)

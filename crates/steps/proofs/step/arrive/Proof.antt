@@ -1,0 +1,135 @@
+use native.Mathlib.Omega.{arith}
+use mathlib.Core.Path.{sym, _∙_}
+use Rattle.queue.specs.declared.Choice.the-variants.{Hold, Reject}
+use Rattle.steps.proofs.Windows.{part-length}
+use Rattle.steps.proofs.Arriving.{held as hold-steps, rejected as reject-steps, by-rule, lost-inside}
+use borrow.Author.Needs.{needs}
+use Rattle.steps.proofs.step.arrive.Statement.{statement}
+use Rattle.steps.proofs.step.arrive.Tie as tie
+
+mul-decide : tie.Need-mul-decide
+mul-decide c = search needs
+
+sub-decide : tie.Need-sub-decide
+sub-decide c = search needs
+
+part-decide-start : tie.Need-part-decide-start
+part-decide-start c = search needs
+
+part-decide-end : tie.Need-part-decide-end
+part-decide-end c = search needs
+
+decide-requires : tie.Need-decide-requires
+decide-requires c κs = search needs
+
+enum-told : tie.Need-enum-told
+enum-told c = search needs
+
+hold-requires : tie.Need-hold-requires
+hold-requires c κs = search needs
+
+enum-told-2 : tie.Need-enum-told-2
+enum-told-2 c = search needs
+
+enter-requires : tie.Need-enter-requires
+enter-requires c κs = search needs
+
+enum-known-place : tie.Need-enum-known-place
+enum-known-place c = search needs
+
+replace-requires : tie.Need-replace-requires
+replace-requires c κs =
+    let start = c .before .before .before .before .before .before .before .before .before .before .before .before .before .before .before .before in
+    let a = start .args in
+    let decided = c .before .before .before .before .before .before .before .before .decide in
+    let chosen = sym (decided .ensures) ∙ c .before .before .before .before .before .before .place .given .1 in
+    let inside = lost-inside (a .room) (a .rule) _ (a .p .value) _ _ chosen in
+    (start .pre .0, omega (arith, inside, part-length (a .w) (a .values .now) (start .pre .0 .inside)))
+
+same-length : tie.Need-same-length
+same-length c = search needs
+
+same-length-2 : tie.Need-same-length-2
+same-length-2 c = search needs
+
+returns : tie.Need-returns
+returns c =
+    let start = c .before .before .before .before .before .before .before .before .before .before .before .before .before .before .before .before .before in
+    let a = start .args in
+    let held = c .before .before .before .before .hold in
+    by-rule (a .w) (a .numbers .now) (a .values .now) (start .pre .0) (a .slot) (a .p) _ (a .room) (a .rule) Hold
+    (sym (c .before .before .before .before .before .before .before .before .before .decide .ensures) ∙ c .before .before .before .before .before .before .before .enum-told .given .1) (held .result) (held .last .0) (held .last .1 .0) _
+    (hold-steps (a .w) (a .numbers .now) (a .values .now) (start .pre .0) (a .slot) (a .p) _ (held .result) (held .last .0) (held .last .1 .0) (held .ensures))
+
+same-length-3 : tie.Need-same-length-3
+same-length-3 c = search needs
+
+same-length-4 : tie.Need-same-length-4
+same-length-4 c = search needs
+
+same-length-5 : tie.Need-same-length-5
+same-length-5 c = search needs
+
+same-length-6 : tie.Need-same-length-6
+same-length-6 c = search needs
+
+returns-2 : tie.Need-returns-2
+returns-2 c =
+    let start = c .before .before .before .before .before .before .before .before .before .before .before .before .before .before .before .before .before .before .before .before in
+    let a = start .args in
+    by-rule (a .w) (a .numbers .now) (a .values .now) (start .pre .0) (a .slot) (a .p) _ (a .room) (a .rule) Reject
+    (sym (c .before .before .before .before .before .before .before .before .before .before .before .before .decide .ensures) ∙ c .before .before .before .before .before .before .before .before .before .before .enum-told2 .given .1) (a .w) (a .numbers .now) (a .values .now) _
+    (reject-steps (a .w) (a .numbers .now) (a .values .now) (start .pre .0) (a .slot) (a .p) _ _ (c .before .before .before .before .before .before .enter .ensures))
+
+same-length-7 : tie.Need-same-length-7
+same-length-7 c = search needs
+
+same-length-8 : tie.Need-same-length-8
+same-length-8 c = search needs
+
+same-length-9 : tie.Need-same-length-9
+same-length-9 c = search needs
+
+same-length-10 : tie.Need-same-length-10
+same-length-10 c = search needs
+
+same-length-11 : tie.Need-same-length-11
+same-length-11 c = search needs
+
+returns-3 : tie.Need-returns-3
+returns-3 c =
+    let start = c .before .before .before .before .before .before .before .before .before .before .before .before .before .before .before .before .before .before .before .before .before .before .before .before .before .before .before in
+    let a = start .args in
+    let replaced = c .before .before .before .before .before .before .before .before .before .before .replace in
+    by-rule (a .w) (a .numbers .now) (a .values .now) (start .pre .0) (a .slot) (a .p) _ (a .room) (a .rule) _
+    (sym (c .before .before .before .before .before .before .before .before .before .before .before .before .before .before .before .before .before .before .before .decide .ensures) ∙ c .before .before .before .before .before .before .before .before .before .before .before .before .before .before .before .before .before .place .given .1) (replaced .result) (replaced .last .0) (replaced .last .1 .0) _ (replaced .ensures)
+
+pub arrive-spec : {M : Type 1} → statement M
+arrive-spec =
+    tie.close
+    (tie.spec
+    mul-decide
+    sub-decide
+    part-decide-start
+    part-decide-end
+    decide-requires
+    enum-told
+    hold-requires
+    enum-told-2
+    enter-requires
+    enum-known-place
+    replace-requires
+    same-length
+    same-length-2
+    returns
+    same-length-3
+    same-length-4
+    same-length-5
+    same-length-6
+    returns-2
+    same-length-7
+    same-length-8
+    same-length-9
+    same-length-10
+    same-length-11
+    returns-3)

@@ -1,0 +1,79 @@
+// What is done to a window that lies within its two lists.
+ghost use mathlib.Core.Path.{_≡_};
+ghost use mathlib.Core.List.{[], _∷_, _++_};
+ghost use Prim.Native.Nat.{_+_, _-_, _≤_, _<_};
+ghost use lib.ListN.{length};
+ghost use Rattle.model.specs.Policies.Greedy.{without};
+ghost use Rattle.steps.specs.Window.{windowOf, Within, Opened, Holds, oldestOf};
+use crate::Window;
+use model::Packet;
+use model::PacketNumber;
+use model::SlotAnswer;
+use queue::slide;
+
+// The window with a free place behind it: where it has come to the end of the lists it moves to their start.
+fn freed(numbers: &mut [u32], values: &mut [u32], w: Window) -> Window
+    requires { ⌜ Within w (now numbers) (now values) ⌝ }
+    requires { ⌜ w .tail - w .head < length (now values) ⌝ }
+    ensures { λ r. ⌜ Opened w (now (numbers .entry)) (now (values .entry)) r (now (numbers .exit)) (now (values .exit)) ⌝ }
+{
+    let head = w.head;
+    let tail = w.tail;
+    if tail < values.len() {
+        return w;
+    }
+    slide(numbers, head, tail, 0);
+    slide(values, head, tail, 0);
+    Window {
+        head: 0,
+        tail: tail - head,
+    }
+}
+
+// Holds a packet: it goes behind the window, which moves first where it has come to the end of its lists.
+pub fn hold(numbers: &mut [u32], values: &mut [u32], w: Window, p: Packet) -> Window
+    requires { ⌜ Within w (now numbers) (now values) ⌝ }
+    requires { ⌜ w .tail - w .head < length (now values) ⌝ }
+    ensures { λ r. ⌜ Holds r (now (numbers .exit)) (now (values .exit)) (windowOf w (now (numbers .entry)) (now (values .entry)) ++ p ∷ []) ⌝ }
+{
+    let o = freed(numbers, values, w);
+    let head = o.head;
+    let tail = o.tail;
+    numbers[tail] = p.number.0;
+    values[tail] = p.value;
+    Window {
+        head,
+        tail: tail + 1,
+    }
+}
+
+// Takes the packet at a place out of the window.
+pub fn lose(numbers: &mut [u32], values: &mut [u32], w: Window, place: usize) -> Window
+    requires { ⌜ Within w (now numbers) (now values) ⌝ }
+    requires { ⌜ w .head + place < w .tail ⌝ }
+    ensures { λ r. ⌜ Holds r (now (numbers .exit)) (now (values .exit)) (without place (windowOf w (now (numbers .entry)) (now (values .entry)))) ⌝ }
+{
+    let at = w.head + place;
+    let tail = w.tail;
+    slide(numbers, at + 1, tail, at);
+    slide(values, at + 1, tail, at);
+    Window {
+        head: w.head,
+        tail: tail - 1,
+    }
+}
+
+// What the end of a slot answers: the oldest packet, or idle.
+pub fn oldest(numbers: &[u32], values: &[u32], head: usize, tail: usize) -> SlotAnswer
+    requires { ⌜ Within (record { head = head; tail = tail }) (now numbers) (now values) ⌝ }
+    ensures { λ r. ⌜ r ≡ oldestOf (windowOf (record { head = head; tail = tail }) (now (numbers .entry)) (now (values .entry))) ⌝ }
+{
+    if head < tail {
+        SlotAnswer::Sent(Packet {
+            number: PacketNumber(numbers[head]),
+            value: values[head],
+        })
+    } else {
+        SlotAnswer::Idle
+    }
+}

@@ -1,0 +1,98 @@
+// What a run does to its queue, for all input: a window that does not lie within its lists, or has no place free where one is needed, is handed back, and
+// nothing is written.
+ghost use mathlib.Core.Path.{_≡_};
+ghost use mathlib.Core.List.{[], _∷_, _++_};
+ghost use Rattle.model.specs.declared.SlotAnswer.the-variants.{Idle};
+ghost use Rattle.queue.specs.Choose.{ruleOf};
+ghost use Rattle.steps.specs.Entry.{lists};
+ghost use Rattle.steps.specs.Window.{windowOf, Holds, oldestOf};
+ghost use Rattle.steps.specs.Step.{Stepped, arrival, arriving, sending};
+ghost use Rattle.steps.specs.Guarded.{Guarded, liesWithin, hasPlace, Unmoved};
+use crate::Window;
+use crate::held;
+use crate::step;
+use model::Packet;
+use model::Slot;
+use model::SlotAnswer;
+use queue::Rule;
+
+fn lies_within(numbers: &[u32], values: &[u32], w: Window) -> bool
+    ensures { λ r. ⌜ r ≡ liesWithin w (now (numbers .entry)) (now (values .entry)) ⌝ }
+{
+    if w.tail < w.head {
+        return false;
+    }
+    if values.len() < w.tail {
+        return false;
+    }
+    numbers.len() == values.len()
+}
+
+fn has_place(numbers: &[u32], values: &[u32], w: Window) -> bool
+    ensures { λ r. ⌜ r ≡ hasPlace w (now (numbers .entry)) (now (values .entry)) ⌝ }
+{
+    if !lies_within(numbers, values, w) {
+        return false;
+    }
+    w.tail - w.head < values.len()
+}
+
+// What the end of a slot answers: the oldest packet, or idle.
+pub fn oldest(numbers: &[u32], values: &[u32], w: Window) -> SlotAnswer
+    ensures { λ r. ⌜ Guarded (liesWithin w (now (numbers .entry)) (now (values .entry))) (r ≡ oldestOf (windowOf w (now (numbers .entry)) (now (values .entry)))) (r ≡ Idle) ⌝ }
+{
+    if !lies_within(numbers, values, w) {
+        return SlotAnswer::Idle;
+    }
+    held::oldest(numbers, values, w.head, w.tail)
+}
+
+// Holds a packet.
+pub fn hold(numbers: &mut [u32], values: &mut [u32], w: Window, p: Packet) -> Window
+    ensures { λ r. ⌜ Guarded (hasPlace w (now (numbers .entry)) (now (values .entry))) (Holds r (now (numbers .exit)) (now (values .exit)) (windowOf w (now (numbers .entry)) (now (values .entry)) ++ p ∷ [])) (Unmoved w (now (numbers .entry)) (now (values .entry)) r (now (numbers .exit)) (now (values .exit))) ⌝ }
+{
+    if !has_place(numbers, values, w) {
+        return w;
+    }
+    held::hold(numbers, values, w, p)
+}
+
+// The ends of the slots from `from` on, up to slot `until`: at each the oldest packet is sent. On idle the run goes straight on.
+pub fn send_until(
+    numbers: &[u32],
+    values: &[u32],
+    fates: &mut [u32],
+    whens: &mut [u32],
+    bys: &mut [u32],
+    w: Window,
+    from: Slot,
+    until: Slot,
+) -> Window
+    ensures { λ r. ⌜ Guarded (liesWithin w (now (numbers .entry)) (now (values .entry))) (Stepped (sending from until (windowOf w (now (numbers .entry)) (now (values .entry)))) (lists (now (fates .entry)) (now (whens .entry)) (now (bys .entry))) r (now (numbers .entry)) (now (values .entry)) (lists (now (fates .exit)) (now (whens .exit)) (now (bys .exit)))) (Unmoved w (now (numbers .entry)) (now (values .entry)) r (now (numbers .entry)) (now (values .entry)) × (lists (now (fates .exit)) (now (whens .exit)) (now (bys .exit)) ≡ lists (now (fates .entry)) (now (whens .entry)) (now (bys .entry)))) ⌝ }
+{
+    if !lies_within(numbers, values, w) {
+        return w;
+    }
+    step::send_until(numbers, values, fates, whens, bys, w, from, until)
+}
+
+// An arrival under a rule.
+pub fn arrive(
+    numbers: &mut [u32],
+    values: &mut [u32],
+    fates: &mut [u32],
+    whens: &mut [u32],
+    bys: &mut [u32],
+    w: Window,
+    room: usize,
+    rule: Rule,
+    slot: Slot,
+    p: Packet,
+) -> Window
+    ensures { λ r. ⌜ Guarded (hasPlace w (now (numbers .entry)) (now (values .entry))) (Stepped (arriving (ruleOf room rule) (arrival slot p) (windowOf w (now (numbers .entry)) (now (values .entry)))) (lists (now (fates .entry)) (now (whens .entry)) (now (bys .entry))) r (now (numbers .exit)) (now (values .exit)) (lists (now (fates .exit)) (now (whens .exit)) (now (bys .exit)))) (Unmoved w (now (numbers .entry)) (now (values .entry)) r (now (numbers .exit)) (now (values .exit)) × (lists (now (fates .exit)) (now (whens .exit)) (now (bys .exit)) ≡ lists (now (fates .entry)) (now (whens .entry)) (now (bys .entry)))) ⌝ }
+{
+    if !has_place(numbers, values, w) {
+        return w;
+    }
+    step::arrive(numbers, values, fates, whens, bys, w, room, rule, slot, p)
+}

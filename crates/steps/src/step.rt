@@ -1,0 +1,123 @@
+// What a slot brings to a window that lies within its two lists: arrivals, and the sendings at the ends of slots.
+ghost use mathlib.Core.Path.{_≡_};
+ghost use Prim.Native.Nat.{_+_, _-_, _≤_, _<_, _^_};
+ghost use lib.ListN.{length};
+ghost use Rattle.model.specs.Record.{entered};
+ghost use Rattle.queue.specs.Choose.{ruleOf, applied};
+ghost use Rattle.steps.specs.Entry.{lists};
+ghost use Rattle.steps.specs.Window.{windowOf, Within};
+ghost use Rattle.steps.specs.Step.{Stepped, arrival, arriving, sending};
+use crate::Window;
+use crate::entry::enter;
+use crate::held::hold;
+use crate::held::lose;
+use crate::held::oldest;
+use model::Fate;
+use model::LossKind;
+use model::Packet;
+use model::PacketNumber;
+use model::Slot;
+use model::SlotAnswer;
+use queue::Choice;
+use queue::Rule;
+use queue::decide;
+
+// The ends of the slots from `from` on, up to slot `until`: at each the oldest packet is sent. On idle the run goes straight on.
+pub fn send_until(
+    numbers: &[u32],
+    values: &[u32],
+    fates: &mut [u32],
+    whens: &mut [u32],
+    bys: &mut [u32],
+    w: Window,
+    from: Slot,
+    until: Slot,
+) -> Window
+    requires { ⌜ Within w (now numbers) (now values) ⌝ }
+    ensures { λ r. ⌜ Stepped (sending from until (windowOf w (now (numbers .entry)) (now (values .entry)))) (lists (now (fates .entry)) (now (whens .entry)) (now (bys .entry))) r (now (numbers .entry)) (now (values .entry)) (lists (now (fates .exit)) (now (whens .exit)) (now (bys .exit))) ⌝ }
+{
+    let mut head = w.head;
+    let tail = w.tail;
+    let mut slot = from.0;
+    while slot < until.0 {
+        let SlotAnswer::Sent(p) = oldest(numbers, values, head, tail) else {
+            return Window { head, tail };
+        };
+        enter(
+            fates,
+            whens,
+            bys,
+            p.number,
+            Fate::Sent,
+            Slot(slot),
+            PacketNumber(0),
+        );
+        head += 1;
+        slot += 1;
+    }
+    Window { head, tail }
+}
+
+// The packet at a place is lost to the arrival, which is held.
+fn replace(
+    numbers: &mut [u32],
+    values: &mut [u32],
+    fates: &mut [u32],
+    whens: &mut [u32],
+    bys: &mut [u32],
+    w: Window,
+    place: usize,
+    kind: LossKind,
+    slot: Slot,
+    p: Packet,
+) -> Window
+    requires { ⌜ Within w (now numbers) (now values) ⌝ }
+    requires { ⌜ w .head + place < w .tail ⌝ }
+    ensures { λ r. ⌜ Stepped (arriving (applied (Choice.Lose place kind)) (arrival slot p) (windowOf w (now (numbers .entry)) (now (values .entry)))) (lists (now (fates .entry)) (now (whens .entry)) (now (bys .entry))) r (now (numbers .exit)) (now (values .exit)) (lists (now (fates .exit)) (now (whens .exit)) (now (bys .exit))) ⌝ }
+{
+    let at = w.head + place;
+    let lost = PacketNumber(numbers[at]);
+    enter(fates, whens, bys, lost, kind.fate(), slot, p.number);
+    let rest = lose(numbers, values, w, place);
+    hold(numbers, values, rest, p)
+}
+
+// An arrival under a rule.
+pub fn arrive(
+    numbers: &mut [u32],
+    values: &mut [u32],
+    fates: &mut [u32],
+    whens: &mut [u32],
+    bys: &mut [u32],
+    w: Window,
+    room: usize,
+    rule: Rule,
+    slot: Slot,
+    p: Packet,
+) -> Window
+    requires { ⌜ Within w (now numbers) (now values) ⌝ }
+    requires { ⌜ w .tail - w .head < length (now values) ⌝ }
+    ensures { λ r. ⌜ Stepped (arriving (ruleOf room rule) (arrival slot p) (windowOf w (now (numbers .entry)) (now (values .entry)))) (lists (now (fates .entry)) (now (whens .entry)) (now (bys .entry))) r (now (numbers .exit)) (now (values .exit)) (lists (now (fates .exit)) (now (whens .exit)) (now (bys .exit))) ⌝ }
+{
+    let head = w.head;
+    let tail = w.tail;
+    match decide(&values[head..tail], room, rule, p.value) {
+        Choice::Hold => hold(numbers, values, w, p),
+        Choice::Reject => {
+            enter(fates, whens, bys, p.number, Fate::Rejected, slot, p.number);
+            w
+        }
+        Choice::Lose(place, kind) => replace(
+            numbers,
+            values,
+            fates,
+            whens,
+            bys,
+            w,
+            place,
+            kind,
+            slot,
+            p,
+        ),
+    }
+}
