@@ -38,9 +38,9 @@ pub fn svg(rows: &[Row]) -> String {
         ));
     }
     let right = LEFT + WIDTH + 14.0;
-    line(format!(r#"<text x="{right}" y="66">ours / rust</text>"#));
+    line(format!(r#"<text x="{right}" y="54">ours / rust</text>"#));
     line(format!(
-        r#"<text x="{}" y="66">ours / tuned</text>"#,
+        r#"<text x="{}" y="54">ours / tuned</text>"#,
         right + 76.0
     ));
     let bottom = TOP + ROW * rows.len() as f64;
@@ -78,11 +78,12 @@ pub fn svg(rows: &[Row]) -> String {
         }
         for (j, at) in [(1, right), (2, right + 76.0)] {
             if let Some((ours, other)) = row.best[0].zip(row.best[j]) {
+                let ratio = ours / other;
+                let colour = if ratio > 1.0 { "#b00020" } else { "#000000" };
                 write!(
                     text,
-                    r#"<text x="{at}" y="{}">{:.2}</text>"#,
-                    y + 16.0,
-                    ours / other
+                    r#"<text x="{at}" y="{}" fill="{colour}">{ratio:.2}</text>"#,
+                    y + 16.0
                 )
                 .unwrap();
             }

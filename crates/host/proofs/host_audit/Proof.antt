@@ -1,3 +1,4 @@
+-- `host::host_audit` meets its contract: what the audit answers is said.
 use Rattle.host.proofs.Saying.{said-of-audit}
 use borrow.Author.Needs.{needs}
 use Rattle.host.proofs.host_audit.Statement.{statement}

@@ -1,3 +1,4 @@
+-- `host::host_greedy` meets its contract: what the call answers is said.
 use Rattle.host.proofs.Saying.{said}
 use borrow.Author.Needs.{needs}
 use Rattle.host.proofs.host_greedy.Statement.{statement}

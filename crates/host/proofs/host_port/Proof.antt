@@ -1,3 +1,4 @@
+-- `host::host_port` meets its contract: the port that was made is fed.
 use mathlib.Core.Path.{ap, _∙_}
 use Rattle.model.specs.Port.{PortOutcome}
 use Rattle.host.specs.Live.{heard}

@@ -1,3 +1,5 @@
+-- `host::live::feed` meets its contract. The loop's invariant: what is heard of the events that are left, from the port and the sum so far, is what is heard of
+-- all of them.
 use Prim.Native.Nat.{_≤_, _<_, _-_, _^_}
 use mathlib.Core.Path.{_≡_, refl, sym, ap, _∙_}
 use mathlib.Core.Logic.{⊎-elim}

@@ -1,3 +1,4 @@
+-- `host::live::mix` meets its contract, which is its sum.
 use mathlib.Core.Path.{refl}
 use Rattle.host.specs.Live.{mixed}
 use borrow.Author.Needs.{needs}

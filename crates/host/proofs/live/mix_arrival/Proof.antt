@@ -1,3 +1,4 @@
+-- `host::live::mix_arrival` meets its contract: in each arm the answer is known, and Hearing has what is heard of it.
 use mathlib.Core.Path.{_∙_, ap}
 use Rattle.model.specs.Record.{fateNumber}
 use Rattle.host.proofs.Hearing.{of-held, of-losing, of-rejected, of-refused}

@@ -1,3 +1,4 @@
+-- `host::live::mix_slot` meets its contract: in each arm the answer is known, and Hearing has what is heard of it.
 use Rattle.host.proofs.Hearing.{of-sent, of-idle, of-slot-refused}
 use borrow.Author.Needs.{needs}
 use Rattle.host.proofs.live.mix_slot.Statement.{statement}

@@ -1,3 +1,4 @@
+-- `host::said::put` meets its contract: past the end of the list nothing is set.
 use mathlib.Core.Path.{sym}
 use lib.Seq.{set-out}
 use borrow.Author.Needs.{needs}

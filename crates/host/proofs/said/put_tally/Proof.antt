@@ -1,3 +1,4 @@
+-- `host::said::put_tally` meets its contract: two numbers are put.
 use borrow.Author.Needs.{needs}
 use Rattle.host.proofs.said.put_tally.Statement.{statement}
 use Rattle.host.proofs.said.put_tally.Tie as tie

@@ -1,3 +1,4 @@
+-- `host::said::say_run` meets its contract: in each arm the answer is known, and Saying has what it says.
 use Rattle.host.proofs.Saying.{ran, run-refused}
 use borrow.Author.Needs.{needs}
 use Rattle.host.proofs.said.say_run.Statement.{statement}

@@ -1,3 +1,4 @@
+-- `host::said::tell` meets its contract: each tally is put in its turn, then the most held.
 use borrow.Author.Needs.{needs}
 use Rattle.host.proofs.said.tell.Statement.{statement}
 use Rattle.host.proofs.said.tell.Tie as tie
