@@ -52,13 +52,22 @@ pub record Bracket (slots : List ℕ) (when low high : ℕ) : Type 0 where
   pub below : (k : ℕ) → k < low → getD slots k 0 ≤ when
   pub above : (k : ℕ) → high ≤ k → k < length slots → when < getD slots k 0
 
-pub bracket-start : (slots : List ℕ) (when : ℕ) → Bracket slots when 0 (length slots)
-bracket-start slots when =
+-- a slot that is not after `when` is in the front
+pub reaches : (slots : List ℕ) (when near : ℕ) → Rising slots → near < length slots → getD slots near 0 ≤ when → near + 1 ≤ upTo slots when
+reaches slots when near rising inside h = go (leb (upTo slots when) near) refl
+  where
+    go : (t : Bool) → leb (upTo slots when) near ≡ t → near + 1 ≤ upTo slots when
+    go true e = absurd (omega (arith, past-front slots when rising near (leb-true (upTo slots when) near e) inside))
+    go false e = omega (arith, leb-false (upTo slots when) near e)
+
+-- any part of the front will do to start from
+pub bracket-start : (slots : List ℕ) (when low : ℕ) → low ≤ upTo slots when → Bracket slots when low (length slots)
+bracket-start slots when low h =
     record {
-      ordered = zero-le;
+      ordered = omega (arith, front-le slots when);
       high-le = omega arith;
-      below = λ k h. absurd (omega arith);
-      above = λ k h l. absurd (omega arith);
+      below = λ k l. in-front slots when k (omega arith);
+      above = λ k l m. absurd (omega arith);
     }
 
 -- a slot between the two settles all on one side of it

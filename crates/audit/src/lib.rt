@@ -1,7 +1,7 @@
 // The audit of anyone's record: the first fault against the buffer's rules, or the totals. What it answers stands in crate model.
 ghost use mathlib.Core.Path.{_≡_};
 ghost use mathlib.Core.Bool.{false, cond};
-ghost use Prim.Native.Nat.{suc, _+_, _≤_, _<_, max};
+ghost use Prim.Native.Nat.{suc, _+_, _≤_, _<_, min, max};
 ghost use lib.ListN.{length};
 ghost use Rattle.model.specs.Packets.{slotOf, arrivals};
 ghost use Rattle.model.specs.Record.{rows};
@@ -123,17 +123,40 @@ fn when_wrong(slots: &[u32], entry: Entry) -> bool
     }
 }
 
-// How many slots at the front of the trace are not after `when`, by halving.
-fn up_to(slots: &[u32], when: Slot) -> usize
+fn lesser(a: usize, b: usize) -> usize
+    ensures { λ r. ⌜ r ≡ min a b ⌝ }
+{
+    if a < b { a } else { b }
+}
+
+// Some slots at the front of the trace that are not after `when`: the first `near`, if the last of these is not.
+fn front(slots: &[u32], near: usize, when: Slot) -> usize
+    requires { ⌜ Rising (now slots) ⌝ }
+    ensures { λ r. ⌜ r ≤ upTo (now (slots .entry)) (when .0) ⌝ }
+{
+    if near == 0 {
+        return 0;
+    }
+    if near <= slots.len() && slots[near - 1] <= when.0 {
+        return near;
+    }
+    0
+}
+
+// How many slots at the front of the trace are not after `when`: behind the first `near` by growing steps, then by halving.
+fn up_to(slots: &[u32], near: usize, when: Slot) -> usize
     requires { ⌜ Rising (now slots) ⌝ }
     ensures { λ r. ⌜ r ≡ upTo (now (slots .entry)) (when .0) ⌝ }
 {
-    let mut low = 0;
+    let mut low = front(slots, near, when);
     let mut high = slots.len();
+    let mut step = 0;
     while low < high {
-        let middle = low + (high - low) / 2;
+        let ahead = lesser(step, (high - low) / 2);
+        let middle = low + ahead;
         if slots[middle] <= when.0 {
             low = middle + 1;
+            step = ahead + ahead + 1;
         } else {
             high = middle;
         }
@@ -148,11 +171,11 @@ fn leave_of(slots: &[u32], entry: Entry) -> usize
 {
     let fate = entry.fate;
     match fate {
-        Fate::Sent => up_to(slots, entry.when),
+        Fate::Sent => up_to(slots, entry.number.0 as usize, entry.when),
         Fate::Rejected => 0,
         Fate::PushedOut => entry.by.0 as usize - 1,
         Fate::Preempted => entry.by.0 as usize - 1,
-        Fate::Flushed => up_to(slots, entry.when),
+        Fate::Flushed => up_to(slots, entry.number.0 as usize, entry.when),
     }
 }
 

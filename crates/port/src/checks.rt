@@ -5,50 +5,44 @@ ghost use Rattle.model.specs.Refusals.{valueOk};
 ghost use Rattle.model.specs.Port.{all, risesFrom};
 use crate::ranges::value_ok;
 
-// All values are in range.
+// All values are in range. Here and below nothing is decided on the way, so a turn costs little.
 pub fn values_ok(values: &[u32]) -> bool
     ensures { λ r. ⌜ r ≡ all valueOk (now (values .entry)) ⌝ }
 {
+    let mut bad = false;
     let mut i = 0;
     while i < values.len() {
-        if !value_ok(values[i]) {
-            return false;
-        }
+        bad = bad | !value_ok(values[i]);
         i += 1;
     }
-    true
+    !bad
 }
 
 // The numbers rise and lie from 1 to the last number given.
 pub fn numbers_rise(numbers: &[u32], last: u32) -> bool
     ensures { λ r. ⌜ r ≡ risesFrom 0 last (now (numbers .entry)) ⌝ }
 {
+    let mut bad = false;
     let mut before = 0;
     let mut i = 0;
     while i < numbers.len() {
         let number = numbers[i];
-        if number <= before {
-            return false;
-        }
-        if last < number {
-            return false;
-        }
+        bad = bad | !(before < number) | !(number <= last);
         before = number;
         i += 1;
     }
-    true
+    !bad
 }
 
 // The places are zero.
 pub fn all_zero(places: &[u32]) -> bool
     ensures { λ r. ⌜ r ≡ all (eqb 0) (now (places .entry)) ⌝ }
 {
+    let mut bad = false;
     let mut i = 0;
     while i < places.len() {
-        if places[i] != 0 {
-            return false;
-        }
+        bad = bad | !(0 == places[i]);
         i += 1;
     }
-    true
+    !bad
 }

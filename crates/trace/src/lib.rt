@@ -1,7 +1,11 @@
 // The test of a trace: refusals 1 to 6, in each call's order. What is refused, and at which place, stands in crate model.
 ghost use mathlib.Core.Path.{_≡_};
+ghost use mathlib.Core.Bool.{true};
+ghost use lib.ListN.{length};
+ghost use Rattle.model.specs.Rules.{clear};
 ghost use Rattle.model.specs.Refusals.{unless, markingOk, slotOk, packetRefusal, traceRefusal, plainRefusal, pgRefusal, mfRefusal};
 ghost use Rattle.trace.specs.Checked.{verdictOf, listsOf, markingOf, okOf, lengthsEqual, Lengths};
+ghost use Rattle.trace.specs.Fitting.{SlotsFit, ValuesFit};
 use model::Beta;
 use model::Cause;
 use model::Record;
@@ -92,6 +96,63 @@ fn packets(slots: &[u32], values: &[u32], taken: Values) -> Checked
     Checked::Accepted
 }
 
+// Whether all slots are in range and none is below the one before. Nothing is decided on the way, so a turn costs little.
+fn slots_fit(slots: &[u32]) -> bool
+    ensures { λ r. ⌜ (r ≡ true → SlotsFit (now (slots .entry)) (length (now (slots .entry)))) ⌝ }
+{
+    let mut bad = false;
+    let mut last: u32 = 0;
+    let mut i = 0;
+    while i < slots.len() {
+        let slot = slots[i];
+        bad = bad | (slot < 1) | (Record::SLOT < slot) | (slot < last);
+        last = slot;
+        i += 1;
+    }
+    !bad
+}
+
+// Whether all values are in range.
+fn values_fit(values: &[u32]) -> bool
+    ensures { λ r. ⌜ (r ≡ true → ValuesFit (now (values .entry)) (length (now (values .entry)))) ⌝ }
+{
+    let mut bad = false;
+    let mut i = 0;
+    while i < values.len() {
+        let value = values[i];
+        bad = bad | (value < 1) | (Record::VALUE < value);
+        i += 1;
+    }
+    !bad
+}
+
+// Whether it is plain that no packet is refused. MF's values are left to the walk.
+fn all_fit(slots: &[u32], values: &[u32], taken: Values) -> bool
+    requires { ⌜ Lengths (now slots) (now values) ⌝ }
+    ensures { λ r. ⌜ (r ≡ true → packetRefusal (okOf taken) (now (slots .entry)) (now (values .entry)) ≡ clear) ⌝ }
+{
+    match taken {
+        Values::InRange => {
+            if !slots_fit(slots) {
+                return false;
+            }
+            values_fit(values)
+        }
+        Values::LoOrHi(_, _) => false,
+    }
+}
+
+// 5 and 6: what is plain at once, else the walk.
+fn packets_or_none(slots: &[u32], values: &[u32], taken: Values) -> Checked
+    requires { ⌜ Lengths (now slots) (now values) ⌝ }
+    ensures { λ r. ⌜ verdictOf r ≡ packetRefusal (okOf taken) (now (slots .entry)) (now (values .entry)) ⌝ }
+{
+    if all_fit(slots, values, taken) {
+        return Checked::Accepted;
+    }
+    packets(slots, values, taken)
+}
+
 fn lengths_equal(slots: &[u32], values: &[u32], fates: &[u32], whens: &[u32], bys: &[u32]) -> bool
     ensures { λ r. ⌜ r ≡ lengthsEqual (now (slots .entry)) (now (values .entry)) (listsOf (now (fates .entry)) (now (whens .entry)) (now (bys .entry))) ⌝ }
 {
@@ -140,7 +201,7 @@ fn in_order(
     if !own {
         return refused(Cause::Parameters);
     }
-    packets(slots, values, taken)
+    packets_or_none(slots, values, taken)
 }
 
 // The test for plain greedy, the audit and the offline plan.

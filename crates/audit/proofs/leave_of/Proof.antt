@@ -12,6 +12,9 @@ use Rattle.audit.proofs.leave_of.Statement.{statement}
 enum-told : tie.Need-enum-told
 enum-told c = search needs
 
+cast-up-to : tie.Need-cast-up-to
+cast-up-to c = search needs
+
 up-to-requires : tie.Need-up-to-requires
 up-to-requires c κs = search needs
 
@@ -47,11 +50,14 @@ sub-result-2 c =
 enum-told-5 : tie.Need-enum-told-5
 enum-told-5 c = search needs
 
+cast-up-to-2 : tie.Need-cast-up-to-2
+cast-up-to-2 c = search needs
+
 up-to-requires-2 : tie.Need-up-to-requires-2
 up-to-requires-2 c κs = search needs
 
 returns : tie.Need-returns
-returns c = c .up-to .ensures ∙ sym (leave-test Sent _ (rowOf (c .before .before .before .before .args .entry)) (ap fateNumber (c .before .enum-told .given .1)))
+returns c = c .up-to .ensures ∙ sym (leave-test Sent _ (rowOf (c .before .before .before .before .before .args .entry)) (ap fateNumber (c .before .before .enum-told .given .1)))
 
 returns-2 : tie.Need-returns-2
 returns-2 c = sym (leave-test Rejected _ (rowOf (c .before .before .before .args .entry)) (ap fateNumber (c .enum-told2 .given .1)))
@@ -63,13 +69,14 @@ returns-4 : tie.Need-returns-4
 returns-4 c = sym (leave-test Preempted _ (rowOf (c .before .before .before .before .args .entry)) (ap fateNumber (c .before .enum-told4 .given .1)))
 
 returns-5 : tie.Need-returns-5
-returns-5 c = c .up-to2 .ensures ∙ sym (leave-test Flushed _ (rowOf (c .before .before .before .before .args .entry)) (ap fateNumber (c .before .enum-told5 .given .1)))
+returns-5 c = c .up-to2 .ensures ∙ sym (leave-test Flushed _ (rowOf (c .before .before .before .before .before .args .entry)) (ap fateNumber (c .before .before .enum-told5 .given .1)))
 
 pub leave-of-spec : {M : Type 1} → statement M
 leave-of-spec =
     tie.close
     (tie.spec
     enum-told
+    cast-up-to
     up-to-requires
     enum-told-2
     enum-told-3
@@ -79,6 +86,7 @@ leave-of-spec =
     cast-result-2
     sub-result-2
     enum-told-5
+    cast-up-to-2
     up-to-requires-2
     returns
     returns-2

@@ -89,8 +89,8 @@ returns-4 c =
     ap verdictOf (c .refused4 .ensures)
     ∙ sym (tests (few-then .before .before) .by-own (equal (few-then .before)) (few few-then) (roomy roomy-then) (not-true _ (c .before .if4 .taken)))
 
-packets-requires : tie.Need-packets-requires
-packets-requires c κs =
+packets-or-none-requires : tie.Need-packets-or-none-requires
+packets-or-none-requires c κs =
     let few-then = c .before .before .before in
     let a = start (few-then .before .before) .args in
     record {
@@ -102,7 +102,7 @@ returns-5 : tie.Need-returns-5
 returns-5 c =
     let roomy-then = c .before .before in
     let few-then = roomy-then .before .before in
-    c .packets .ensures
+    c .packets-or-none .ensures
     ∙ sym (tests (few-then .before .before) .by-none (equal (few-then .before)) (few few-then) (roomy roomy-then) (not-false _ (c .before .if4 .left)))
 
 pub in-order-spec : {M : Type 1} → statement M
@@ -119,5 +119,5 @@ in-order-spec =
     returns-3
     refused-requires-4
     returns-4
-    packets-requires
+    packets-or-none-requires
     returns-5)

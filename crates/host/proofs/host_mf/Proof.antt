@@ -1,0 +1,44 @@
+-- `host::host_mf` meets its contract: what the call answers is said.
+use Rattle.host.proofs.Saying.{said}
+use borrow.Author.Needs.{needs}
+use Rattle.host.proofs.host_mf.Statement.{statement}
+use Rattle.host.proofs.host_mf.Tie as tie
+use Rattle.host.proofs.host_mf.Reads as reads
+use Rattle.host.proofs.host_mf.Lts as lts
+use Rattle.host.proofs.said.say_run.Reads as say-run-reads
+use Rattle.mf.proofs.calls.mf.Reads as mf-reads
+
+mf-requires : tie.Need-mf-requires
+mf-requires c κs = search needs
+
+say-run-requires : tie.Need-say-run-requires
+say-run-requires c κs = search needs
+
+same-length : tie.Need-same-length
+same-length c = search needs
+
+same-length-2 : tie.Need-same-length-2
+same-length-2 c = search needs
+
+same-length-3 : tie.Need-same-length-3
+same-length-3 c = search needs
+
+same-length-4 : tie.Need-same-length-4
+same-length-4 c = search needs
+
+returns : tie.Need-returns
+returns c =
+    let ran = c .before .before .before .before .before .before .before .before .before .before in
+    said (ran .mf .result) (ran .mf .ensures) (c .before .before .say-run .ensures)
+
+pub host-mf-spec : {M : Type 1} → statement M
+host-mf-spec =
+    tie.close
+    (tie.spec
+    mf-requires
+    say-run-requires
+    same-length
+    same-length-2
+    same-length-3
+    same-length-4
+    returns)

@@ -1,0 +1,89 @@
+-- `host::said::say_audit` meets its contract: in each arm the answer is known, and Saying has what it says.
+use Rattle.host.proofs.Saying.{passed, faulty, audit-refused}
+use borrow.Author.Needs.{needs}
+use Rattle.host.proofs.said.say_audit.Statement.{statement}
+use Rattle.host.proofs.said.say_audit.Tie as tie
+use Rattle.host.proofs.said.say_audit.Reads as reads
+use Rattle.host.proofs.said.say_audit.Lts as lts
+use Rattle.host.proofs.said.code.Reads as code-reads
+use Rattle.host.proofs.said.no_totals.Reads as no-totals-reads
+use Rattle.host.proofs.said.tell.Reads as tell-reads
+use Rattle.model.proofs.Cause.number.Reads as Cause-number-reads
+use Rattle.model.proofs.Fault.number.Reads as Fault-number-reads
+
+enum-known-answer : tie.Need-enum-known-answer
+enum-known-answer c = search needs
+
+tell-requires : tie.Need-tell-requires
+tell-requires c κs = search needs
+
+enum-known-answer-2 : tie.Need-enum-known-answer-2
+enum-known-answer-2 c = search needs
+
+no-totals-requires : tie.Need-no-totals-requires
+no-totals-requires c κs = search needs
+
+tell-requires-2 : tie.Need-tell-requires-2
+tell-requires-2 c κs = search needs
+
+number-requires : tie.Need-number-requires
+number-requires c κs = search needs
+
+code-requires : tie.Need-code-requires
+code-requires c κs = search needs
+
+enum-known-answer-3 : tie.Need-enum-known-answer-3
+enum-known-answer-3 c = search needs
+
+no-totals-requires-2 : tie.Need-no-totals-requires-2
+no-totals-requires-2 c κs = search needs
+
+tell-requires-3 : tie.Need-tell-requires-3
+tell-requires-3 c κs = search needs
+
+number-requires-2 : tie.Need-number-requires-2
+number-requires-2 c κs = search needs
+
+code-requires-2 : tie.Need-code-requires-2
+code-requires-2 c κs = search needs
+
+same-length : tie.Need-same-length
+same-length c = search needs
+
+returns : tie.Need-returns
+returns c = passed _ (c .before .before .before .before .before .answer .given .1) (c .before .before .tell .ensures)
+
+same-length-2 : tie.Need-same-length-2
+same-length-2 c = search needs
+
+returns-2 : tie.Need-returns-2
+returns-2 c = faulty _ (c .before .before .before .before .before .before .before .before .before .answer2 .given .1) (c .before .before .before .before .before .before .no-totals .ensures) (c .before .before .before .before .before .tell2 .ensures) (c .before .number .ensures) (c .code .ensures)
+
+same-length-3 : tie.Need-same-length-3
+same-length-3 c = search needs
+
+returns-3 : tie.Need-returns-3
+returns-3 c = audit-refused _ (c .before .before .before .before .before .before .before .before .answer3 .given .1) (c .before .before .before .before .before .no-totals2 .ensures) (c .before .before .before .before .tell3 .ensures) (c .before .number2 .ensures) (c .code2 .ensures)
+
+pub say-audit-spec : {M : Type 1} → statement M
+say-audit-spec =
+    tie.close
+    (tie.spec
+    enum-known-answer
+    tell-requires
+    enum-known-answer-2
+    no-totals-requires
+    tell-requires-2
+    number-requires
+    code-requires
+    enum-known-answer-3
+    no-totals-requires-2
+    tell-requires-3
+    number-requires-2
+    code-requires-2
+    same-length
+    returns
+    same-length-2
+    returns-2
+    same-length-3
+    returns-3)

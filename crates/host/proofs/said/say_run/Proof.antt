@@ -1,0 +1,60 @@
+-- `host::said::say_run` meets its contract: in each arm the answer is known, and Saying has what it says.
+use Rattle.host.proofs.Saying.{ran, run-refused}
+use borrow.Author.Needs.{needs}
+use Rattle.host.proofs.said.say_run.Statement.{statement}
+use Rattle.host.proofs.said.say_run.Tie as tie
+use Rattle.host.proofs.said.say_run.Reads as reads
+use Rattle.host.proofs.said.say_run.Lts as lts
+use Rattle.host.proofs.said.code.Reads as code-reads
+use Rattle.host.proofs.said.no_totals.Reads as no-totals-reads
+use Rattle.host.proofs.said.tell.Reads as tell-reads
+use Rattle.model.proofs.Cause.number.Reads as number-reads
+
+enum-known-answer : tie.Need-enum-known-answer
+enum-known-answer c = search needs
+
+tell-requires : tie.Need-tell-requires
+tell-requires c κs = search needs
+
+enum-known-answer-2 : tie.Need-enum-known-answer-2
+enum-known-answer-2 c = search needs
+
+no-totals-requires : tie.Need-no-totals-requires
+no-totals-requires c κs = search needs
+
+tell-requires-2 : tie.Need-tell-requires-2
+tell-requires-2 c κs = search needs
+
+number-requires : tie.Need-number-requires
+number-requires c κs = search needs
+
+code-requires : tie.Need-code-requires
+code-requires c κs = search needs
+
+same-length : tie.Need-same-length
+same-length c = search needs
+
+returns : tie.Need-returns
+returns c = ran _ (c .before .before .before .before .before .answer .given .1) (c .before .before .tell .ensures)
+
+same-length-2 : tie.Need-same-length-2
+same-length-2 c = search needs
+
+returns-2 : tie.Need-returns-2
+returns-2 c = run-refused _ (c .before .before .before .before .before .before .before .before .answer2 .given .1) (c .before .before .before .before .before .no-totals .ensures) (c .before .before .before .before .tell2 .ensures) (c .before .number .ensures) (c .code .ensures)
+
+pub say-run-spec : {M : Type 1} → statement M
+say-run-spec =
+    tie.close
+    (tie.spec
+    enum-known-answer
+    tell-requires
+    enum-known-answer-2
+    no-totals-requires
+    tell-requires-2
+    number-requires
+    code-requires
+    same-length
+    returns
+    same-length-2
+    returns-2)

@@ -1,0 +1,45 @@
+-- What a call on a trace says through the door: one number, the three lists of the record, and a list of totals.
+use Prim.Native.Nat.{ℕ, _+_, _*_, _^_}
+use mathlib.Core.Path.{_≡_}
+use mathlib.Core.List.{List}
+use lib.ListN.{set}
+use Rattle.model.specs.declared.Beta.{Beta}
+use Rattle.model.specs.declared.Tally.{Tally}
+use Rattle.model.specs.declared.Totals.{Totals}
+use Rattle.model.specs.Record.{Lists}
+use Rattle.model.specs.Answers.{Reply}
+use Rattle.model.specs.Calls.{Outcome}
+
+abbrev pub betaOf : ℕ → ℕ → Beta
+betaOf num den = record { num = num; den = den }
+
+-- 0, or a refusal's or a fault's number times 2 ^ 32 and its place
+abbrev pub codeOf : Reply → ℕ
+codeOf reply = reply .number * 2 ^ 32 + reply .place
+
+-- a tally at two places of a list
+abbrev pub tallied : ℕ → Tally → List ℕ → List ℕ
+tallied place tally list = set (set list place (tally .count)) (place + 1) (tally .value)
+
+-- the totals in the first thirteen places of a list, as far as it has them
+abbrev pub told : Totals → List ℕ → List ℕ
+told totals list =
+    set
+    (tallied 10 (totals .flushed)
+    (tallied 8 (totals .preempted)
+    (tallied 6 (totals .«pushed_out»)
+    (tallied 4 (totals .rejected)
+    (tallied 2 (totals .sent)
+    (tallied 0 (totals .arrived) list))))))
+    12
+    (totals .«most_held»)
+
+-- a reply is said by a number and in the list of totals
+pub record SaidOfAudit (reply : Reply) (before : List ℕ) (answer : ℕ) (after : List ℕ) : Type 0 where
+  pub number : answer ≡ codeOf reply
+  pub totals : after ≡ told (reply .totals) before
+
+-- and so is an outcome, whose record stands in the three lists
+pub record Said (outcome : Outcome) (before : List ℕ) (answer : ℕ) (record-lists : Lists) (after : List ℕ) : Type 0 where
+  pub reply : SaidOfAudit (outcome .reply) before answer after
+  pub lists : record-lists ≡ outcome .lists

@@ -1,0 +1,121 @@
+// The benchmark's door to the proved calls: the runs, the audit and a live port, on numbers and slices, for a Rust program to link.
+mod live;
+mod said;
+
+ghost use Rattle.model.specs.Calls.{greedyCall, pgCall, mfCall, planCall, auditCall};
+ghost use Rattle.model.specs.Port.{makeCall};
+ghost use mathlib.Core.Path.{_≡_};
+ghost use Rattle.trace.specs.Checked.{markingOf, listsOf};
+ghost use Rattle.host.specs.Said.{betaOf, Said, SaidOfAudit};
+ghost use Rattle.host.specs.Live.{heard};
+use crate::live::feed;
+use crate::said::say_audit;
+use crate::said::say_run;
+use audit::audit;
+use mf::calls::mf;
+use model::Beta;
+use plan::calls::plan;
+use port::Port;
+use runs::calls::greedy;
+use runs::calls::pg;
+
+// Plain greedy. Every call answers 0, or a refusal's number times 2^32 and its place, and writes its totals.
+#[no_mangle]
+pub extern "C" fn host_greedy(
+    slots: &[u32],
+    values: &[u32],
+    room: usize,
+    fates: &mut [u32],
+    whens: &mut [u32],
+    bys: &mut [u32],
+    totals: &mut [u32],
+) -> u64
+    ensures { λ r. ⌜ Said (greedyCall (now (slots .entry)) (now (values .entry)) room (listsOf (now (fates .entry)) (now (whens .entry)) (now (bys .entry)))) (now (totals .entry)) r (listsOf (now (fates .exit)) (now (whens .exit)) (now (bys .exit))) (now (totals .exit)) ⌝ }
+{
+    say_run(greedy(slots, values, room, fates, whens, bys), totals)
+}
+
+// PG with beta num / den.
+#[no_mangle]
+pub extern "C" fn host_pg(
+    slots: &[u32],
+    values: &[u32],
+    room: usize,
+    num: u32,
+    den: u32,
+    fates: &mut [u32],
+    whens: &mut [u32],
+    bys: &mut [u32],
+    totals: &mut [u32],
+) -> u64
+    ensures { λ r. ⌜ Said (pgCall (now (slots .entry)) (now (values .entry)) room (betaOf num den) (listsOf (now (fates .entry)) (now (whens .entry)) (now (bys .entry)))) (now (totals .entry)) r (listsOf (now (fates .exit)) (now (whens .exit)) (now (bys .exit))) (now (totals .exit)) ⌝ }
+{
+    say_run(
+        pg(slots, values, room, Beta { num, den }, fates, whens, bys),
+        totals,
+    )
+}
+
+// MF.
+#[no_mangle]
+pub extern "C" fn host_mf(
+    slots: &[u32],
+    values: &[u32],
+    room: usize,
+    lo: u32,
+    hi: u32,
+    r: usize,
+    fates: &mut [u32],
+    whens: &mut [u32],
+    bys: &mut [u32],
+    totals: &mut [u32],
+) -> u64
+    ensures { λ a. ⌜ Said (mfCall (now (slots .entry)) (now (values .entry)) room (markingOf lo hi r) (listsOf (now (fates .entry)) (now (whens .entry)) (now (bys .entry)))) (now (totals .entry)) a (listsOf (now (fates .exit)) (now (whens .exit)) (now (bys .exit))) (now (totals .exit)) ⌝ }
+{
+    say_run(
+        mf(slots, values, room, lo, hi, r, fates, whens, bys),
+        totals,
+    )
+}
+
+// The offline plan.
+#[no_mangle]
+pub extern "C" fn host_plan(
+    slots: &[u32],
+    values: &[u32],
+    room: usize,
+    fates: &mut [u32],
+    whens: &mut [u32],
+    bys: &mut [u32],
+    totals: &mut [u32],
+) -> u64
+    ensures { λ r. ⌜ Said (planCall (now (slots .entry)) (now (values .entry)) room (listsOf (now (fates .entry)) (now (whens .entry)) (now (bys .entry)))) (now (totals .entry)) r (listsOf (now (fates .exit)) (now (whens .exit)) (now (bys .exit))) (now (totals .exit)) ⌝ }
+{
+    say_run(plan(slots, values, room, fates, whens, bys), totals)
+}
+
+// The audit: it only reads the record.
+#[no_mangle]
+pub extern "C" fn host_audit(
+    slots: &[u32],
+    values: &[u32],
+    room: usize,
+    fates: &[u32],
+    whens: &[u32],
+    bys: &[u32],
+    totals: &mut [u32],
+) -> u64
+    ensures { λ r. ⌜ SaidOfAudit (auditCall (now (slots .entry)) (now (values .entry)) room (listsOf (now (fates .entry)) (now (whens .entry)) (now (bys .entry)))) (now (totals .entry)) r (now (totals .exit)) ⌝ }
+{
+    say_audit(audit(slots, values, room, fates, whens, bys), totals)
+}
+
+// A port is made and fed events by value: 0 is an end of slot, any other number an arrival of that value. The answer mixes all that the port says, in order.
+#[no_mangle]
+pub extern "C" fn host_port(events: &[u32], room: usize, num: u32, den: u32) -> u64
+    ensures { λ r. ⌜ r ≡ heard (makeCall room (betaOf num den) .port) 0 (now (events .entry)) ⌝ }
+{
+    let made = Port::new(room, Beta { num, den });
+    let port = made.port;
+    feed(port, events)
+}
