@@ -6,5 +6,4 @@ pub mod Held
 pub mod Faults
 pub mod Kept
 pub mod Turn
-pub mod Tallies
 pub mod Answer

@@ -13,7 +13,6 @@ ghost use Rattle.model.specs.Limits.{recordLimits, within};
 ghost use Rattle.model.specs.Rules.{hasFate, byWrong, whenWrong};
 ghost use Rattle.trace.specs.Checked.{listsOf};
 ghost use Rattle.trace.specs.Tested.{Rising, Tested};
-ghost use Rattle.audit.specs.Tallies.{countsFate, tallyIn, totalsIn, Tallied};
 ghost use Rattle.audit.specs.Rows.{rowOf, rowAt, Names, Reads, Place};
 ghost use Rattle.audit.specs.Sweep.{upTo, leaveOf, lastOf, notAfter, entryFault, foundOf, SweptAs};
 use model::AuditAnswer;
@@ -23,8 +22,7 @@ use model::FirstFault;
 use model::PacketNumber;
 use model::Record;
 use model::Slot;
-use model::Tally;
-use model::Totals;
+use steps::totals::totals;
 use trace::Checked;
 
 // What a record's number of a fate names.
@@ -59,12 +57,6 @@ enum Read {
 enum Swept {
     Clear(u32),
     Faulty(FirstFault),
-}
-
-// Which packets a tally counts.
-enum Counted {
-    Every,
-    Of(Fate),
 }
 
 fn fate_of(number: u32) -> Named
@@ -308,52 +300,6 @@ fn sweep(
     Swept::Clear(most)
 }
 
-fn is_counted(which: Counted, fate: u32) -> bool
-    ensures { λ r. ⌜ r ≡ countsFate which fate ⌝ }
-{
-    match which {
-        Counted::Every => true,
-        Counted::Of(known) => fate == known.number(),
-    }
-}
-
-fn tally_of(values: &[u32], fates: &[u32], which: Counted) -> Tally
-    requires { ⌜ Tallied (now values) (now fates) ⌝ }
-    ensures { λ r. ⌜ r ≡ tallyIn which (now (values .entry)) (now (fates .entry)) ⌝ }
-{
-    let mut count: u32 = 0;
-    let mut value: u32 = 0;
-    let mut i = 0;
-    while i < values.len() {
-        let counted = is_counted(which, fates[i]);
-        count += only_if(counted, 1);
-        value += only_if(counted, values[i]);
-        i += 1;
-    }
-    Tally { count, value }
-}
-
-fn totals_of(values: &[u32], fates: &[u32], most: u32) -> Totals
-    requires { ⌜ Tallied (now values) (now fates) ⌝ }
-    ensures { λ r. ⌜ r ≡ totalsIn (now (values .entry)) (now (fates .entry)) most ⌝ }
-{
-    let arrived = tally_of(values, fates, Counted::Every);
-    let sent = tally_of(values, fates, Counted::Of(Fate::Sent));
-    let rejected = tally_of(values, fates, Counted::Of(Fate::Rejected));
-    let pushed_out = tally_of(values, fates, Counted::Of(Fate::PushedOut));
-    let preempted = tally_of(values, fates, Counted::Of(Fate::Preempted));
-    let flushed = tally_of(values, fates, Counted::Of(Fate::Flushed));
-    Totals {
-        arrived,
-        sent,
-        rejected,
-        pushed_out,
-        preempted,
-        flushed,
-        most_held: most,
-    }
-}
-
 // The audit of a record: refusals 1, 2, 3, 5 and 6, then the first fault, else the totals.
 pub fn audit(
     slots: &[u32],
@@ -369,7 +315,7 @@ pub fn audit(
         return AuditAnswer::Refused(refusal);
     }
     match sweep(slots, values, room, fates, whens, bys) {
-        Swept::Clear(most) => AuditAnswer::Passed(totals_of(values, fates, most)),
+        Swept::Clear(most) => AuditAnswer::Passed(totals(values, fates, most)),
         Swept::Faulty(fault) => AuditAnswer::Faulty(fault),
     }
 }

@@ -1,4 +1,4 @@
--- A call's answer: the totals counted from the fates are the totals of the record's rows, and a refusal or a run is what model's call says of the verdict.
+-- A call's answer: the totals are those of the record that was written, and a refusal or a run is what model's call says of the verdict.
 use Prim.Native.Nat.{ℕ, suc, _+_}
 use mathlib.Core.Path.{_≡_, refl, sym, ap, ap₂, subst, _∙_}
 use mathlib.Core.Bool.{Bool, true, false, cond}
@@ -29,35 +29,7 @@ use Rattle.trace.specs.Tested.{Tested}
 use Rattle.trace.proofs.Accepted.{within-to}
 use Rattle.steps.specs.Totals.{countIn, sumIn, Countable, tallyBy, totalsBy}
 use Rattle.steps.specs.Calls.{outcome, Ready}
-use Rattle.steps.proofs.Counting.{fate-six}
-
--- three lists as long as the trace
-abbrev Long : List ℕ → List ℕ → List ℕ → List ℕ → Type 0
-Long slots fates whens bys = (length fates ≡ length slots) × (length whens ≡ length slots) × (length bys ≡ length slots)
-
-count-rows : (f : Fate) (n : ℕ) (slots values fates whens bys : List ℕ) → length values ≡ length slots → Long slots fates whens bys
-    → countOf (hasFate f) (rowsOf (arrivalsFrom n slots values) fates whens bys) ≡ countIn (fateNumber f) fates
-unfolding countOf hasFate rowsOf arrivalsFrom countIn
-count-rows f n [] values [] whens bys same long = refl
-count-rows f n [] values (g ∷ fates) whens bys same long = absurd (omega arith)
-count-rows f n (s ∷ slots) [] fates whens bys same long = absurd (omega arith)
-count-rows f n (s ∷ slots) (v ∷ values) [] whens bys same long = absurd (omega arith)
-count-rows f n (s ∷ slots) (v ∷ values) (g ∷ fates) [] bys same long = absurd (omega arith)
-count-rows f n (s ∷ slots) (v ∷ values) (g ∷ fates) (w ∷ whens) [] same long = absurd (omega arith)
-count-rows f n (s ∷ slots) (v ∷ values) (g ∷ fates) (w ∷ whens) (b ∷ bys) same long =
-    ap (λ (k : ℕ). cond (eqb g (fateNumber f)) 1 0 + k) (count-rows f (suc n) slots values fates whens bys (omega arith) (omega arith))
-
-value-rows : (f : Fate) (n : ℕ) (slots values fates whens bys : List ℕ) → length values ≡ length slots → Long slots fates whens bys
-    → valueOf (hasFate f) (rowsOf (arrivalsFrom n slots values) fates whens bys) ≡ sumIn (fateNumber f) values fates
-unfolding valueOf hasFate rowsOf arrivalsFrom sumIn
-value-rows f n [] values [] whens bys same long = refl
-value-rows f n [] values (g ∷ fates) whens bys same long = absurd (omega arith)
-value-rows f n (s ∷ slots) [] fates whens bys same long = absurd (omega arith)
-value-rows f n (s ∷ slots) (v ∷ values) [] whens bys same long = absurd (omega arith)
-value-rows f n (s ∷ slots) (v ∷ values) (g ∷ fates) [] bys same long = absurd (omega arith)
-value-rows f n (s ∷ slots) (v ∷ values) (g ∷ fates) (w ∷ whens) [] same long = absurd (omega arith)
-value-rows f n (s ∷ slots) (v ∷ values) (g ∷ fates) (w ∷ whens) (b ∷ bys) same long =
-    ap (λ (k : ℕ). cond (eqb g (fateNumber f)) v 0 + k) (value-rows f (suc n) slots values fates whens bys (omega arith) (omega arith))
+use Rattle.steps.proofs.Totalling.{rows-totals}
 
 module _ {S : Type 0} (P : Policy S) (s : S) (slots values : List ℕ) (lists : Lists) (R : Ready P s slots values lists) where
   abbrev entries : List Entry
@@ -75,39 +47,11 @@ module _ {S : Type 0} (P : Policy S) (s : S) (slots values : List ℕ) (lists : 
       (record {
         same = R .same ∙ sym (R .formed .sized .fates);
         few = rw (R .formed .sized .fates) (R .few);
-        fates-fit = λ k h.
-            let f = R .formed .fate k (rw (R .formed .sized .fates) at h) in
-            rw (f .1) (fate-six (f .0));
         values-fit = R .values-fit;
       })
 
-  tally-rows : (f : Fate) → tally (hasFate f) (rows (arrivals slots values) written) ≡ tallyBy values (written .fates) f
-  tally-rows f =
-      let long : Long slots (written .fates) (written .whens) (written .bys) = (R .formed .sized .fates, R .formed .sized .whens, R .formed .sized .bys) in
-      ap₂ (λ (c v : ℕ). record { count = c; value = v })
-      (count-rows f 1 slots values (written .fates) (written .whens) (written .bys) (R .same) long)
-      (value-rows f 1 slots values (written .fates) (written .whens) (written .bys) (R .same) long)
-
   totals-rows : totalsOf (rows (arrivals slots values) written) ≡ totalsBy values (written .fates) (mostQueue P first s (arrivals slots values))
-  totals-rows =
-      let count = R .formed .arrived-count ∙ sym (R .formed .sized .fates) in
-      let value = R .formed .arrived-value in
-      let sent = tally-rows Sent in
-      let rejected = tally-rows Rejected in
-      let out = tally-rows PushedOut in
-      let preempted = tally-rows Preempted in
-      let flushed = tally-rows Flushed in
-      let most = R .most in
-      λ k.
-      record {
-        arrived = record { count = count k; value = value k };
-        sent = sent k;
-        rejected = rejected k;
-        «pushed_out» = out k;
-        preempted = preempted k;
-        flushed = flushed k;
-        «most_held» = most k;
-      }
+  totals-rows = rows-totals slots values written (R .same) (R .formed .sized) ∙ ap (totalsBy values (written .fates)) (R .most)
 
   pub answered : (after : Lists) → after ≡ written → (most : ℕ) → most ≡ mostQueue P first s (arrivals slots values)
       → (t : Totals) → t ≡ totalsBy values (after .fates) most → outcome (Ran t) after ≡ ran slots values entries

@@ -1,5 +1,5 @@
 -- The loop that counts: what each fate has so far and what is left to count come to what there is in all.
-use Prim.Native.Nat.{ℕ, _+_, _*_, _≤_, _<_}
+use Prim.Native.Nat.{ℕ, min, _+_, _*_, _≤_, _<_}
 use mathlib.Core.Path.{_≡_, refl, sym, ap, ap₂, subst, _∙_}
 use mathlib.Core.Bool.{cond}
 use mathlib.Core.List.{List, [], _∷_}
@@ -33,29 +33,29 @@ count-fits f (g ∷ fates) = eqb-cases g f _ (λ t e. rw t (omega (arith, count-
 
 -- i packets are counted
 pub record Counted (values fates counts sums : List ℕ) (all i : ℕ) : Type 0 where
-  pub counts-six : length counts ≡ 6
-  pub sums-six : length sums ≡ 6
+  pub counts-seven : length counts ≡ 7
+  pub sums-seven : length sums ≡ 7
   pub inside : i ≤ length fates
   pub counted : (f : ℕ) → f < 6 → getD counts f 0 + countIn f (drop i fates) ≡ countIn f fates
   pub summed : (f : ℕ) → f < 6 → getD sums f 0 + sumIn f (drop i values) (drop i fates) ≡ sumIn f values fates
   pub added : all + sum (drop i values) ≡ sum values
-  pub under : (f : ℕ) → f < 6 → getD sums f 0 ≤ all
+  pub fewer : (f : ℕ) → f < 7 → getD counts f 0 ≤ i
+  pub under : (f : ℕ) → f < 7 → getD sums f 0 ≤ all
   pub fits : all ≤ recordLimits .value * i
-  pub fates-fit : (k : ℕ) → k < i → getD fates k 0 < 6
   pub values-fit : (k : ℕ) → k < i → getD values k 0 ≤ recordLimits .value
 
-pub counted-none : (values fates : List ℕ) → Counted values fates (replicate 6 0) (replicate 6 0) 0 0
+pub counted-none : (values fates : List ℕ) → Counted values fates (replicate 7 0) (replicate 7 0) 0 0
 counted-none values fates =
     record {
-      counts-six = refl;
-      sums-six = refl;
+      counts-seven = refl;
+      sums-seven = refl;
       inside = omega arith;
-      counted = λ f h. rw (getD-replicate {A = ℕ} 6 f 0 0 h) (omega arith);
-      summed = λ f h. rw (getD-replicate {A = ℕ} 6 f 0 0 h) (omega arith);
+      counted = λ f h. rw (getD-replicate {A = ℕ} 7 f 0 0 (omega arith)) (omega arith);
+      summed = λ f h. rw (getD-replicate {A = ℕ} 7 f 0 0 (omega arith)) (omega arith);
       added = omega arith;
-      under = λ f h. rw (getD-replicate {A = ℕ} 6 f 0 0 h) (omega arith);
+      fewer = λ f h. rw (getD-replicate {A = ℕ} 7 f 0 0 h) (omega arith);
+      under = λ f h. rw (getD-replicate {A = ℕ} 7 f 0 0 h) (omega arith);
       fits = omega arith;
-      fates-fit = λ k h. absurd (omega arith);
       values-fit = λ k h. absurd (omega arith);
     }
 
@@ -64,12 +64,28 @@ up-to : (P : ℕ → Type 0) (i : ℕ) → ((k : ℕ) → k < i → P k) → P i
 up-to P i before here k h = eqb-cases k i (P k) (λ t e. subst P (sym e) here) (λ t n. before k (omega (arith, n)))
 
 module _ (values fates counts sums : List ℕ) (all i : ℕ) (same : length values ≡ length fates) (few : length fates ≤ recordLimits .packets) (K : Counted values fates counts sums all i) where
-  module _ (more : i < length fates) (six : getD fates i 0 < 6) (low : getD values i 0 ≤ recordLimits .value) where
+  module _ (more : i < length fates) (low : getD values i 0 ≤ recordLimits .value) where
     fate : ℕ
     fate = getD fates i 0
 
     value : ℕ
     value = getD values i 0
+
+    -- where it is counted
+    place : ℕ
+    place = min fate 6
+
+    place-seven : place < 7
+    unfolding place
+    place-seven = omega arith
+
+    found : (f : ℕ) → fate ≡ f → f < 6 → place ≡ f
+    unfolding place
+    found f e h = omega arith
+
+    other : (f : ℕ) → (fate ≡ f → ⊥) → f < 6 → place ≡ f → ⊥
+    unfolding place
+    other f n h e = n (omega arith)
 
     count-turn : (f : ℕ) → countIn f (drop i fates) ≡ cond (eqb fate f) 1 0 + countIn f (drop (i + 1) fates)
     unfolding countIn fate
@@ -83,40 +99,58 @@ module _ (values fates counts sums : List ℕ) (all i : ℕ) (same : length valu
     unfolding sum value
     all-turn = rw (add-one, drop-cons values i 0 (omega (arith, same))) refl
 
-    pub count-room : getD counts (getD fates i 0) 0 + 1 ≤ recordLimits .packets
-    unfolding fate
-    count-room =
-        omega (arith, K .counted fate six, count-fits fate fates, few, rw (eq-eqb fate fate refl) at (count-turn fate))
+    pub count-room : getD counts (min (getD fates i 0) 6) 0 + 1 ≤ recordLimits .packets
+    unfolding fate place
+    count-room = omega (arith, K .fewer place place-seven, few)
 
-    pub sum-room : getD sums (getD fates i 0) 0 + getD values i 0 ≤ recordLimits .value * recordLimits .packets
-    sum-room = omega (arith, K .under (getD fates i 0) six, K .fits, few)
+    pub sum-room : getD sums (min (getD fates i 0) 6) 0 + getD values i 0 ≤ recordLimits .value * recordLimits .packets
+    unfolding fate place
+    sum-room = omega (arith, K .under place place-seven, K .fits, few)
 
     pub all-room : all + getD values i 0 ≤ recordLimits .value * recordLimits .packets
     all-room = omega (arith, K .fits, few)
 
-    pub counted-more : Counted values fates (set counts (getD fates i 0) (getD counts (getD fates i 0) 0 + 1))
-        (set sums (getD fates i 0) (getD sums (getD fates i 0) 0 + getD values i 0)) (all + getD values i 0) (i + 1)
-    unfolding fate value
+    -- one entry of a list of seven is more by n
+    module _ (list : List ℕ) (seven : length list ≡ 7) (n : ℕ) where
+      more-at : List ℕ
+      more-at = set list place (getD list place 0 + n)
+
+      at-place : getD more-at place 0 ≡ getD list place 0 + n
+      unfolding more-at
+      at-place = getD-set-same list place _ 0 (omega (arith, place-seven))
+
+      elsewhere : (f : ℕ) → (place ≡ f → ⊥) → getD more-at f 0 ≡ getD list f 0
+      unfolding more-at
+      elsewhere f n′ = getD-set-other list place f _ 0 (λ s. n′ (sym s))
+
+      -- all entries are at most what was the most and n
+      all-most : (most : ℕ) → ((f : ℕ) → f < 7 → getD list f 0 ≤ most) → (f : ℕ) → f < 7 → getD more-at f 0 ≤ most + n
+      all-most most each f h =
+          eqb-cases place f _
+          (λ t e. subst (λ (k : ℕ). getD more-at k 0 ≤ most + n) e (omega (arith, at-place, each place place-seven)))
+          (λ t e. omega (arith, elsewhere f e, each f h))
+
+      -- what is counted of a fate is more by n if it is this packet's
+      one-more : (f : ℕ) → f < 6 → getD more-at f 0 ≡ getD list f 0 + cond (eqb fate f) n 0
+      one-more f h =
+          eqb-cases fate f _
+          (λ t e. rw t (subst (λ (k : ℕ). getD more-at k 0 ≡ getD list k 0 + n) (found f e h) at-place))
+          (λ t e. rw t (omega (arith, elsewhere f (other f e h))))
+
+    pub counted-more : Counted values fates (set counts (min (getD fates i 0) 6) (getD counts (min (getD fates i 0) 6) 0 + 1))
+        (set sums (min (getD fates i 0) 6) (getD sums (min (getD fates i 0) 6) 0 + getD values i 0)) (all + getD values i 0) (i + 1)
+    unfolding fate value place more-at
     counted-more =
         record {
-          counts-six = simp length-set (K .counts-six);
-          sums-six = simp length-set (K .sums-six);
+          counts-seven = simp length-set (K .counts-seven);
+          sums-seven = simp length-set (K .sums-seven);
           inside = omega arith;
-          counted = λ f h.
-              eqb-cases fate f _
-              (λ t e. rw (← e, getD-set-same counts fate _ 0 (omega (arith, K .counts-six))) (omega (arith, K .counted fate six, rw (eq-eqb fate fate refl) at (count-turn fate))))
-              (λ t e. rw (getD-set-other counts fate f _ 0 (λ s. e (sym s))) (omega (arith, K .counted f h, rw t at (count-turn f))));
-          summed = λ f h.
-              eqb-cases fate f _
-              (λ t e. rw (← e, getD-set-same sums fate _ 0 (omega (arith, K .sums-six))) (omega (arith, K .summed fate six, rw (eq-eqb fate fate refl) at (sum-turn fate))))
-              (λ t e. rw (getD-set-other sums fate f _ 0 (λ s. e (sym s))) (omega (arith, K .summed f h, rw t at (sum-turn f))));
+          counted = λ f h. omega (arith, one-more counts (K .counts-seven) 1 f h, K .counted f h, count-turn f);
+          summed = λ f h. omega (arith, one-more sums (K .sums-seven) value f h, K .summed f h, sum-turn f);
           added = omega (arith, K .added, all-turn);
-          under = λ f h.
-              eqb-cases fate f _
-              (λ t e. rw (← e, getD-set-same sums fate _ 0 (omega (arith, K .sums-six))) (omega (arith, K .under fate six)))
-              (λ t e. rw (getD-set-other sums fate f _ 0 (λ s. e (sym s))) (omega (arith, K .under f h)));
+          fewer = all-most counts (K .counts-seven) 1 i (K .fewer);
+          under = all-most sums (K .sums-seven) value all (K .under);
           fits = omega (arith, K .fits);
-          fates-fit = up-to (λ (k : ℕ). getD fates k 0 < 6) i (K .fates-fit) six;
           values-fit = up-to (λ (k : ℕ). getD values k 0 ≤ recordLimits .value) i (K .values-fit) low;
         }
 
@@ -126,7 +160,6 @@ module _ (values fates counts sums : List ℕ) (all i : ℕ) (same : length valu
         record {
           same = same;
           few = few;
-          fates-fit = λ k h. K .fates-fit k (omega arith);
           values-fit = λ k h. K .values-fit k (omega (arith, same));
         }
 

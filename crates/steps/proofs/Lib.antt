@@ -7,4 +7,5 @@ pub mod Counting
 pub mod Places
 pub mod Coursing
 pub mod Running
+pub mod Totalling
 pub mod Answering

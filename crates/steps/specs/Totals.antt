@@ -25,11 +25,10 @@ sumIn f values [] = 0
 sumIn f [] (g ∷ fates) = 0
 sumIn f (v ∷ values) (g ∷ fates) = cond (eqb g f) v 0 + sumIn f values fates
 
--- a record that can be counted: as many fates as values and not too many, each fate one of 0 to 5, each value in range
+-- a record that can be counted: as many fates as values and not too many, each value in range
 pub record Countable (values fates : List ℕ) : Type 0 where
   pub same : length values ≡ length fates
   pub few : length fates ≤ recordLimits .packets
-  pub fates-fit : (k : ℕ) → k < length fates → getD fates k 0 < 6
   pub values-fit : (k : ℕ) → k < length values → getD values k 0 ≤ recordLimits .value
 
 abbrev pub tallyBy : List ℕ → List ℕ → Fate → Tally

@@ -1,5 +1,5 @@
 -- `audit::audit` meets its contract: a refused trace is refused as `plainRefusal` says; of an accepted one the sweep says the first fault, or that there is
--- none, and then the totals are tallied.
+-- none, and then the totals are counted.
 use mathlib.Core.Path.{_≡_, sym, ap, subst, _∙_}
 use borrow.Author.Needs.{needs}
 use Rattle.audit.specs.Sweep.{SweptAs}
@@ -8,7 +8,7 @@ use Rattle.trace.specs.Checked.{verdictOf, listsOf}
 use Rattle.audit.proofs.audit.Tie as tie
 use Rattle.audit.specs.declared.Swept.{Swept}
 use Rattle.model.specs.Rules.{Verdict, clear}
-use Rattle.audit.proofs.Answer.{tallied, totals-are, on-refused, on-faulty, on-passed}
+use Rattle.audit.proofs.Answer.{countable, totals-are, on-refused, on-faulty, on-passed}
 use Rattle.model.specs.Packets.{arrivals}
 use Rattle.trace.specs.Tested.{Tested}
 use Rattle.audit.proofs.audit.Statement.{statement}
@@ -62,12 +62,8 @@ sweep-requires c κs = tested c
 enum-known-most : tie.Need-enum-known-most
 enum-known-most c = search needs
 
-totals-of-requires : tie.Need-totals-of-requires
-totals-of-requires c κs =
-    let told = c .before .before .before .before in
-    let p = told .before .before in
-    let a = start p .args in
-    tallied (a .slots .now) (a .values .now) (a .room) (lists p) (tested told)
+totals-requires : tie.Need-totals-requires
+totals-requires c κs = search needs
 
 enum-known-fault : tie.Need-enum-known-fault
 enum-known-fault c = search needs
@@ -84,8 +80,8 @@ returns-2 c =
     (λ (x : Swept). SweptAs (bufferOf (a .slots .now) (a .room)) (rows (arrivals (a .slots .now) (a .values .now)) (lists p)) x)
     (said .most .given .1)
     (swept at-sweep) in
-    on-passed (a .slots .now) (a .values .now) (a .room) (lists p) (c .totals-of .result) (passed told) (clean .0)
-    (totals-are (a .slots .now) (a .values .now) (a .room) (lists p) most (tested told) (clean .1) ∙ sym (c .totals-of .ensures))
+    on-passed (a .slots .now) (a .values .now) (a .room) (lists p) (c .totals .result) (passed told) (clean .0)
+    (totals-are (a .slots .now) (a .values .now) (a .room) (lists p) most (tested told) (clean .1) ∙ sym (c .totals .ensures .counted (countable (a .slots .now) (a .values .now) (a .room) (lists p) (tested told))))
 
 returns-3 : tie.Need-returns-3
 returns-3 c =
@@ -110,7 +106,7 @@ audit-spec =
     enum-told
     sweep-requires
     enum-known-most
-    totals-of-requires
+    totals-requires
     enum-known-fault
     returns-2
     returns-3)

@@ -6,8 +6,6 @@ use Rattle.audit.proofs.UpTo.{reaches}
 use borrow.Author.Needs.{needs}
 use Rattle.audit.proofs.front.Statement.{statement}
 use Rattle.audit.proofs.front.Tie as tie
-use Rattle.audit.proofs.front.Reads as reads
-use Rattle.audit.proofs.front.Lts as lts
 
 returns : tie.Need-returns
 returns c = search needs

@@ -1,15 +1,11 @@
 -- `audit::up_to` meets its contract. The loop's invariant: low and high bracket the end of the front. The slots never go down, so the one in between settles
 -- all on one side of it, wherever it stands; the measure is what lies between the two.
-use Prim.Native.Nat.{_+_, _-_, _/_}
+use Prim.Native.Nat.{_+_, _-_}
 use native.Mathlib.Omega.{arith}
 use borrow.Author.Needs.{needs}
 use Rattle.audit.proofs.UpTo.{Bracket, bracket-start, bracket-up, bracket-down, met}
 use Rattle.audit.proofs.up_to.Statement.{statement}
 use Rattle.audit.proofs.up_to.Tie as tie
-use Rattle.audit.proofs.up_to.Reads as reads
-use Rattle.audit.proofs.up_to.Lts as lts
-use Rattle.audit.proofs.front.Reads as front-reads
-use Rattle.audit.proofs.lesser.Reads as lesser-reads
 
 abbrev Inv-loop : tie.InvT-loop
 Inv-loop slots near when low₀ high₀ step₀ low high step = Bracket slots (when .0) low high

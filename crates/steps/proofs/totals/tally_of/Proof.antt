@@ -1,3 +1,4 @@
+use native.Mathlib.Omega.{arith}
 use mathlib.Core.Path.{refl}
 use Rattle.steps.proofs.Counting.{fate-six}
 use borrow.Author.Needs.{needs}
@@ -14,13 +15,13 @@ mul-t8 : tie.Need-mul-t8
 mul-t8 c = search needs
 
 array-read-t7 : tie.Need-array-read-t7
-array-read-t7 c = rw (c .number .ensures) (fate-six (c .before .args .fate))
+array-read-t7 c = rw (c .number .ensures) (omega (arith, fate-six (c .before .args .fate)))
 
 mul-t11 : tie.Need-mul-t11
 mul-t11 c = search needs
 
 array-read-t14 : tie.Need-array-read-t14
-array-read-t14 c = rw (c .number .ensures) (fate-six (c .before .args .fate))
+array-read-t14 c = rw (c .number .ensures) (omega (arith, fate-six (c .before .args .fate)))
 
 returns : tie.Need-returns
 returns c = rw (c .number .ensures) refl

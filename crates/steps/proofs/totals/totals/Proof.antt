@@ -34,12 +34,12 @@ loop-holds : tie.Need-loop-holds Inv-loop μ-loop
 loop-holds c =
     counted-none (c .before .before .before .before .args .values .now) (c .before .before .before .before .args .fates .now)
 
-mul-fate : tie.Need-mul-fate Inv-loop μ-loop
-mul-fate c =
+mul-v : tie.Need-mul-v Inv-loop μ-loop
+mul-v c =
     search needs
 
-shared-slice-read-fate : tie.Need-shared-slice-read-fate Inv-loop μ-loop
-shared-slice-read-fate c =
+shared-slice-read-v : tie.Need-shared-slice-read-v Inv-loop μ-loop
+shared-slice-read-v c =
     search needs
 
 none-requires-3 : tie.Need-none-requires-3 Inv-loop μ-loop
@@ -49,36 +49,27 @@ none-requires-3 c κs =
 returns-3 : tie.Need-returns-3 Inv-loop μ-loop
 returns-3 c =
     let i = c .before .before .before .before .loop .i in
-    record { counted = λ C. absurd (omega (arith, c .before .if3 .taken, C .fates-fit i (omega (arith, c .before .before .before .loop-test .taken)))); uncounted = λ n. c .none3 .ensures }
+    record { counted = λ C. absurd (omega (arith, c .before .if3 .taken, C .values-fit i (omega (arith, c .before .before .before .loop-test .taken, C .same)))); uncounted = λ n. c .none3 .ensures }
 
-mul-v : tie.Need-mul-v Inv-loop μ-loop
-mul-v c =
+mul-place-of : tie.Need-mul-place-of Inv-loop μ-loop
+mul-place-of c =
     search needs
 
-shared-slice-read-v : tie.Need-shared-slice-read-v Inv-loop μ-loop
-shared-slice-read-v c =
+shared-slice-read-place-of : tie.Need-shared-slice-read-place-of Inv-loop μ-loop
+shared-slice-read-place-of c =
     search needs
 
-none-requires-4 : tie.Need-none-requires-4 Inv-loop μ-loop
-none-requires-4 c κs =
+place-of-requires : tie.Need-place-of-requires Inv-loop μ-loop
+place-of-requires c κs =
     search needs
-
-returns-4 : tie.Need-returns-4 Inv-loop μ-loop
-returns-4 c =
-    let i = c .before .before .before .before .before .before .loop .i in
-    record { counted = λ C. absurd (omega (arith, c .before .if4 .taken, C .values-fit i (omega (arith, c .before .before .before .before .before .loop-test .taken, C .same)))); uncounted = λ n. c .none4 .ensures }
-
-cast-f : tie.Need-cast-f Inv-loop μ-loop
-cast-f c =
-    omega (arith, c .before .before .if3 .left)
 
 mul-counts : tie.Need-mul-counts Inv-loop μ-loop
 mul-counts c =
-    omega (arith, c .before .before .if3 .left)
+    omega (arith, c .place-of .ensures)
 
 array-read-counts : tie.Need-array-read-counts Inv-loop μ-loop
 array-read-counts c =
-    omega (arith, c .before .before .if3 .left)
+    omega (arith, c .place-of .ensures)
 
 add-counts : tie.Need-add-counts Inv-loop μ-loop
 add-counts c =
@@ -87,21 +78,20 @@ add-counts c =
     let same = c .before .before .before .before .before .before .before .if1 .left in
     let few = c .before .before .before .before .before .before .if2 .left in
     let more = c .before .before .before .before .loop-test .taken in
-    let six = c .before .before .if3 .left in
-    let low = c .if4 .left in
-    omega (arith, count-room (start .args .values .now) (start .args .fates .now) _ _ (loop .loop .all) (loop .loop .i) (omega (arith, same)) (omega (arith, few)) (loop .loop .inv) (omega (arith, more)) (omega (arith, six)) (omega (arith, low)))
+    let low = c .before .before .if3 .left in
+    omega (arith, rw (← c .place-of .ensures) at (count-room (start .args .values .now) (start .args .fates .now) _ _ (loop .loop .all) (loop .loop .i) (omega (arith, same)) (omega (arith, few)) (loop .loop .inv) (omega (arith, more)) (omega (arith, low))))
 
 array-write-counts : tie.Need-array-write-counts Inv-loop μ-loop
 array-write-counts c =
-    omega (arith, c .before .before .if3 .left)
+    omega (arith, c .place-of .ensures)
 
 mul-sums : tie.Need-mul-sums Inv-loop μ-loop
 mul-sums c =
-    omega (arith, c .before .before .if3 .left)
+    omega (arith, c .place-of .ensures)
 
 array-read-sums : tie.Need-array-read-sums Inv-loop μ-loop
 array-read-sums c =
-    omega (arith, c .before .before .if3 .left)
+    omega (arith, c .place-of .ensures)
 
 add-sums : tie.Need-add-sums Inv-loop μ-loop
 add-sums c =
@@ -110,13 +100,12 @@ add-sums c =
     let same = c .before .before .before .before .before .before .before .if1 .left in
     let few = c .before .before .before .before .before .before .if2 .left in
     let more = c .before .before .before .before .loop-test .taken in
-    let six = c .before .before .if3 .left in
-    let low = c .if4 .left in
-    omega (arith, sum-room (start .args .values .now) (start .args .fates .now) _ _ (loop .loop .all) (loop .loop .i) (omega (arith, same)) (omega (arith, few)) (loop .loop .inv) (omega (arith, more)) (omega (arith, six)) (omega (arith, low)))
+    let low = c .before .before .if3 .left in
+    omega (arith, rw (← c .place-of .ensures) at (sum-room (start .args .values .now) (start .args .fates .now) _ _ (loop .loop .all) (loop .loop .i) (omega (arith, same)) (omega (arith, few)) (loop .loop .inv) (omega (arith, more)) (omega (arith, low))))
 
 array-write-sums : tie.Need-array-write-sums Inv-loop μ-loop
 array-write-sums c =
-    omega (arith, c .before .before .if3 .left)
+    omega (arith, c .place-of .ensures)
 
 add-all : tie.Need-add-all Inv-loop μ-loop
 add-all c =
@@ -125,9 +114,8 @@ add-all c =
     let same = c .before .before .before .before .before .before .before .if1 .left in
     let few = c .before .before .before .before .before .before .if2 .left in
     let more = c .before .before .before .before .loop-test .taken in
-    let six = c .before .before .if3 .left in
-    let low = c .if4 .left in
-    omega (arith, all-room (start .args .values .now) (start .args .fates .now) _ _ (loop .loop .all) (loop .loop .i) (omega (arith, same)) (omega (arith, few)) (loop .loop .inv) (omega (arith, more)) (omega (arith, six)) (omega (arith, low)))
+    let low = c .before .before .if3 .left in
+    omega (arith, all-room (start .args .values .now) (start .args .fates .now) _ _ (loop .loop .all) (loop .loop .i) (omega (arith, same)) (omega (arith, few)) (loop .loop .inv) (omega (arith, more)) (omega (arith, low)))
 
 add-i : tie.Need-add-i Inv-loop μ-loop
 add-i c =
@@ -144,9 +132,8 @@ loop-again c =
     let same = c .before .before .before .before .before .before .before .if1 .left in
     let few = c .before .before .before .before .before .before .if2 .left in
     let more = c .before .before .before .before .loop-test .taken in
-    let six = c .before .before .if3 .left in
-    let low = c .if4 .left in
-    counted-more (start .args .values .now) (start .args .fates .now) _ _ (loop .loop .all) (loop .loop .i) (omega (arith, same)) (omega (arith, few)) (loop .loop .inv) (omega (arith, more)) (omega (arith, six)) (omega (arith, low))
+    let low = c .before .before .if3 .left in
+    rw (c .place-of .ensures) (counted-more (start .args .values .now) (start .args .fates .now) _ _ (loop .loop .all) (loop .loop .i) (omega (arith, same)) (omega (arith, few)) (loop .loop .inv) (omega (arith, more)) (omega (arith, low)))
 
 tally-of-requires : tie.Need-tally-of-requires Inv-loop μ-loop
 tally-of-requires c κs =
@@ -168,12 +155,12 @@ tally-of-requires-5 : tie.Need-tally-of-requires-5 Inv-loop μ-loop
 tally-of-requires-5 c κs =
     search needs
 
-cast-t32 : tie.Need-cast-t32 Inv-loop μ-loop
-cast-t32 c =
+cast-t31 : tie.Need-cast-t31 Inv-loop μ-loop
+cast-t31 c =
     search needs
 
-returns-5 : tie.Need-returns-5 Inv-loop μ-loop
-returns-5 c =
+returns-4 : tie.Need-returns-4 Inv-loop μ-loop
+returns-4 c =
     let loop = c .before .before .before .before .before .before in
     let start = c .before .before .before .before .before .before .before .before .before .before .before in
     let same = c .before .before .before .before .before .before .before .before .if1 .left in
@@ -200,4 +187,4 @@ returns-5 c =
     }
 
 pub totals-spec : {M : Type 1} → statement M
-totals-spec = tie.close (tie.spec Inv-loop μ-loop none-requires returns none-requires-2 returns-2 loop-holds mul-fate shared-slice-read-fate none-requires-3 returns-3 mul-v shared-slice-read-v none-requires-4 returns-4 cast-f mul-counts array-read-counts add-counts array-write-counts mul-sums array-read-sums add-sums array-write-sums add-all add-i loop-less loop-again tally-of-requires tally-of-requires-2 tally-of-requires-3 tally-of-requires-4 tally-of-requires-5 cast-t32 returns-5)
+totals-spec = tie.close (tie.spec Inv-loop μ-loop none-requires returns none-requires-2 returns-2 loop-holds mul-v shared-slice-read-v none-requires-3 returns-3 mul-place-of shared-slice-read-place-of place-of-requires mul-counts array-read-counts add-counts array-write-counts mul-sums array-read-sums add-sums array-write-sums add-all add-i loop-less loop-again tally-of-requires tally-of-requires-2 tally-of-requires-3 tally-of-requires-4 tally-of-requires-5 cast-t31 returns-4)
