@@ -1,5 +1,5 @@
 -- A trace that the test accepts is one on which plain greedy and PG can run.
-use Prim.Native.Nat.{ℕ}
+use Prim.Native.Nat.{ℕ, _≤_}
 use mathlib.Core.Path.{_≡_, sym, ap}
 use mathlib.Core.List.{List, []}
 use Rattle.model.specs.declared.Beta.{Beta}
@@ -16,16 +16,16 @@ use Rattle.steps.specs.Calls.{Ready}
 use Rattle.steps.proofs.Answering.{ready}
 
 module _ (slots values : List ℕ) (room : ℕ) (lists : Lists) where
-  pub greedy-ready : clear ≡ plainRefusal slots values room lists → Ready (byRule (greedyRule room)) [] slots values lists
+  pub greedy-ready : clear ≡ plainRefusal slots values room lists → Ready (byRule (greedyRule room)) [] slots values lists × (1 ≤ room)
   unfolding plainRefusal
   greedy-ready e =
       let zero-number : plainRefusal slots values room lists .number ≡ 0 = ap (λ (v : Verdict). v .number) (sym e) in
       let T = accepted clear valueOk slots values room lists zero-number in
-      ready (byRule (greedyRule room)) [] valueOk (λ v h. h) slots values room lists T (wellFormed-greedy slots values (T .values-length) room) (lawful-greedy slots values room lists zero-number)
+      (ready (byRule (greedyRule room)) [] valueOk (λ v h. h) slots values room lists T (wellFormed-greedy slots values (T .values-length) room) (lawful-greedy slots values room lists zero-number), T .room-from)
 
-  pub pg-ready : (beta : Beta) → clear ≡ pgRefusal beta slots values room lists → Ready (byRule (pgRule room beta)) [] slots values lists
+  pub pg-ready : (beta : Beta) → clear ≡ pgRefusal beta slots values room lists → Ready (byRule (pgRule room beta)) [] slots values lists × (1 ≤ room)
   unfolding pgRefusal
   pg-ready beta e =
       let zero-number : pgRefusal beta slots values room lists .number ≡ 0 = ap (λ (v : Verdict). v .number) (sym e) in
       let T = accepted (betaRefusal beta) valueOk slots values room lists zero-number in
-      ready (byRule (pgRule room beta)) [] valueOk (λ v h. h) slots values room lists T (wellFormed-pg slots values (T .values-length) room beta) (lawful-pg slots values room lists beta zero-number)
+      (ready (byRule (pgRule room beta)) [] valueOk (λ v h. h) slots values room lists T (wellFormed-pg slots values (T .values-length) room beta) (lawful-pg slots values room lists beta zero-number), T .room-from)

@@ -1,6 +1,7 @@
 // The public calls of plain greedy and PG: each tests its input, runs, and answers the totals of the record that it wrote.
 ghost use mathlib.Core.Path.{_≡_};
 ghost use mathlib.Core.List.{[]};
+ghost use Prim.Native.Nat.{_≤_};
 ghost use Rattle.model.specs.Calls.{ran, greedyCall, pgCall};
 ghost use Rattle.model.specs.Course.{byRule, course, first};
 ghost use Rattle.model.specs.Packets.{arrivals};
@@ -25,6 +26,7 @@ fn finish(
     bys: &mut [u32],
 ) -> RunAnswer
     requires { ⌜ Ready (byRule (ruleOf room rule)) [] (now slots) (now values) (lists (now fates) (now whens) (now bys)) ⌝ }
+    requires { ⌜ 1 ≤ room ⌝ }
     ensures { λ r. ⌜ outcome r (lists (now (fates .exit)) (now (whens .exit)) (now (bys .exit))) ≡ ran (now (slots .entry)) (now (values .entry)) (course (byRule (ruleOf room rule)) first [] (arrivals (now (slots .entry)) (now (values .entry)))) ⌝ }
 {
     let most = run(slots, values, room, rule, fates, whens, bys);

@@ -2,7 +2,7 @@
 ghost use mathlib.Core.List.{[]};
 ghost use Rattle.model.specs.Course.{byRule};
 ghost use Rattle.queue.specs.Choose.{ruleOf};
-ghost use Prim.Native.Nat.{_-_, _<_};
+ghost use Prim.Native.Nat.{_-_, _≤_, _<_};
 ghost use lib.ListN.{length};
 ghost use Rattle.steps.specs.Window.{windowOf, Within};
 ghost use Rattle.steps.specs.Step.{Stepped, arrival, turning};
@@ -15,9 +15,10 @@ use queue::Rule;
 use steps::PLACES;
 use steps::Window;
 use steps::moves::arrive;
+use steps::moves::hold;
 use steps::moves::send_until;
 
-// One packet of a trace: the ends of the slots before its own, then its arrival.
+// One packet of a trace: the ends of the slots before its own, then its arrival. A packet that finds nothing held is held at once: room is at least 1.
 fn take(
     numbers: &mut [u32],
     values: &mut [u32],
@@ -33,9 +34,13 @@ fn take(
 ) -> Window
     requires { ⌜ Within w (now numbers) (now values) ⌝ }
     requires { ⌜ w .tail - w .head < length (now values) ⌝ }
+    requires { ⌜ 1 ≤ room ⌝ }
     ensures { λ r. ⌜ Stepped (turning (ruleOf room rule) before (arrival slot p) (windowOf w (now (numbers .entry)) (now (values .entry)))) (lists (now (fates .entry)) (now (whens .entry)) (now (bys .entry))) r (now (numbers .exit)) (now (values .exit)) (lists (now (fates .exit)) (now (whens .exit)) (now (bys .exit))) ⌝ }
 {
     let left = send_until(numbers, values, fates, whens, bys, w, before, slot);
+    if left.head == left.tail {
+        return hold(numbers, values, left, p);
+    }
     arrive(
         numbers,
         values,
@@ -61,6 +66,7 @@ pub fn run(
     bys: &mut [u32],
 ) -> u32
     requires { ⌜ Runnable (byRule (ruleOf room rule)) [] (now slots) (now values) ⌝ }
+    requires { ⌜ 1 ≤ room ⌝ }
     ensures { λ r. ⌜ Ran (byRule (ruleOf room rule)) [] (now (slots .entry)) (now (values .entry)) (lists (now (fates .entry)) (now (whens .entry)) (now (bys .entry))) (lists (now (fates .exit)) (now (whens .exit)) (now (bys .exit))) r ⌝ }
 {
     let mut numbers = [0u32; PLACES];

@@ -27,9 +27,9 @@ returns c =
     let a = start .args in
     let done = c .before .before .before .before .before .before .before .before .run in
     let P = byRule (ruleOf (a .room) (a .rule)) in
-    let written = all-written P [] (a .slots .now) (a .values .now) _ (start .pre) _ (done .ensures .written) in
-    answered P [] (a .slots .now) (a .values .now) _ (start .pre) _ written
-    (done .result) (done .ensures .longest) (c .totals .result) (c .totals .ensures .counted (countable P [] (a .slots .now) (a .values .now) _ (start .pre) _ written))
+    let written = all-written P [] (a .slots .now) (a .values .now) _ (start .pre .0) _ (done .ensures .written) in
+    answered P [] (a .slots .now) (a .values .now) _ (start .pre .0) _ written
+    (done .result) (done .ensures .longest) (c .totals .result) (c .totals .ensures .counted (countable P [] (a .slots .now) (a .values .now) _ (start .pre .0) _ written))
 
 pub finish-spec : {M : Type 1} → statement M
 finish-spec =

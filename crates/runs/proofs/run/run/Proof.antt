@@ -75,7 +75,7 @@ loop-again c =
       taken .kept .1 .1 .0 ∙ loop .loop .inv .0,
       taken .kept .1 .1 .1 .0 ∙ loop .loop .inv .1,
       taken .kept .1 .1 .1 .1 .0 ∙ loop .loop .inv .2,
-      going-turn (ruleOf (a .room) (a .rule)) (a .slots .now) (a .values .now) _ (start .pre) _ _ (loop .loop .head) (loop .loop .tail) (loop .loop .last) (loop .loop .most)
+      going-turn (ruleOf (a .room) (a .rule)) (a .slots .now) (a .values .now) _ (start .pre .0) _ _ (loop .loop .head) (loop .loop .tail) (loop .loop .last) (loop .loop .most)
           (loop .loop .i) _ (loop .loop .inv .3) (c .before .before .before .before .before .before .before .before .before .before .before .before .before .before .before .before .before .loop-test .taken) (taken .result) (taken .last .0) (taken .last .1 .0) _ (c .if1 .most) (taken .ensures) (taken .kept .1 .0) most,
     )
 
@@ -115,7 +115,7 @@ returns c =
     let loop = c .before .before .before .before .before .before .before .before .before .before .before .before .before in
     let sent = c .before .before .before .before .before .before .send-until in
     let a = start .args in
-    going-end (ruleOf (a .room) (a .rule)) (a .slots .now) (a .values .now) _ (start .pre) _ _ (loop .loop .head) (loop .loop .tail) (loop .loop .last) (loop .loop .most) (loop .loop .i) _
+    going-end (ruleOf (a .room) (a .rule)) (a .slots .now) (a .values .now) _ (start .pre .0) _ _ (loop .loop .head) (loop .loop .tail) (loop .loop .last) (loop .loop .most) (loop .loop .i) _
     (loop .loop .inv .3) (c .before .before .before .before .before .before .before .before .before .before .before .before .loop-test .left) (sent .result) _ _ refl (passed _ _ _ (within-lies _ _ _ (loop .loop .inv .3 .within)) (sent .ensures))
 
 pub run-spec : {M : Type 1} → statement M
