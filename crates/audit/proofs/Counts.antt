@@ -20,11 +20,6 @@ leavesFrom slots i r = leb i (leaveOf slots r)
 abbrev pub leavesAt : List ℕ → ℕ → Row → Bool
 leavesAt slots i r = eqb i (leaveOf slots r)
 
--- what counts only under a test
-pub only-le : (t : Bool) (n : ℕ) → cond t n 0 ≤ n
-only-le true n = omega arith
-only-le false n = zero-le
-
 pub count-le : (test : Row → Bool) (rows : List Row) → countOf test rows ≤ length rows
 unfolding countOf
 count-le test [] = zero-le

@@ -16,7 +16,7 @@ use Rattle.model.specs.Answers.{faultNumber}
 use Rattle.trace.specs.Tested.{Tested}
 use Rattle.audit.specs.Rows.{rowAt}
 use Rattle.audit.specs.Sweep.{leaveOf, lastOf, entryFault}
-use Rattle.audit.proofs.Counts.{only-le}
+use Rattle.steps.proofs.Counting.{only-le}
 use Rattle.audit.proofs.Faults.{first-clear}
 use Rattle.audit.proofs.Held.{leave-le}
 use Rattle.audit.proofs.Kept as laws

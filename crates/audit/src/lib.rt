@@ -1,6 +1,6 @@
 // The audit of anyone's record: the first fault against the buffer's rules, or the totals. What it answers stands in crate model.
 ghost use mathlib.Core.Path.{_≡_};
-ghost use mathlib.Core.Bool.{false, cond};
+ghost use mathlib.Core.Bool.{false};
 ghost use Prim.Native.Nat.{suc, _+_, _≤_, _<_, min, max};
 ghost use lib.ListN.{length};
 ghost use Rattle.model.specs.Packets.{slotOf, arrivals};
@@ -22,6 +22,7 @@ use model::FirstFault;
 use model::PacketNumber;
 use model::Record;
 use model::Slot;
+use steps::totals::only_if;
 use steps::totals::totals;
 use trace::Checked;
 
@@ -237,12 +238,6 @@ fn entry_at(
         when: Slot(whens[i]),
         by: PacketNumber(bys[i]),
     })
-}
-
-fn only_if(test: bool, n: u32) -> u32
-    ensures { λ r. ⌜ r ≡ cond test n 0 ⌝ }
-{
-    if test { n } else { 0 }
 }
 
 fn greater(a: u32, b: u32) -> u32

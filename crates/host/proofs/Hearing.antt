@@ -1,13 +1,11 @@
 -- What is heard of one event, and what of each answer of a port.
-use Prim.Native.Nat.{ℕ, zero, suc, _+_, _*_, _%_, _<_, _≤_, _^_}
+use Prim.Native.Nat.{ℕ, _+_, _<_, _≤_, _^_}
 use mathlib.Core.Path.{_≡_, refl, ap, sym, _∙_}
-use mathlib.Core.Bool.{cond}
-use mathlib.Core.List.{List, [], _∷_}
+use mathlib.Core.List.{List}
 use native.Mathlib.Numerals.{add-one}
 use native.Mathlib.Omega.{arith}
 use lib.ListN.{length, getD, drop, drop-of-length-le}
 use lib.Seq.{drop-cons}
-use lib.Dec.{eqb}
 use borrow.Author.Tests.{eq-eqb, ne-eqb}
 use Rattle.model.specs.declared.Fate.the-variants as fates
 use Rattle.model.specs.declared.Loss.{Loss}
@@ -19,7 +17,7 @@ use Rattle.model.specs.declared.ArrivalAnswer.the-variants as arrival
 use Rattle.model.specs.declared.SlotAnswer.{SlotAnswer}
 use Rattle.model.specs.declared.SlotAnswer.the-variants as slot
 use Rattle.model.specs.Record.{fateNumber, lossFate}
-use Rattle.model.specs.Answers.{PortReply, causeNumber, ofArrival, ofSlot}
+use Rattle.model.specs.Answers.{causeNumber, ofArrival, ofSlot}
 use Rattle.model.specs.Port.{PortState, PortOutcome, arriveCall, endOfSlotCall}
 use Rattle.host.specs.Live.{mixed, mixedIn, callOf, heard}
 

@@ -13,7 +13,7 @@ use Rattle.model.specs.Record.{Lists}
 use Rattle.model.specs.Totals.{noTotals}
 use Rattle.model.specs.Answers.{Reply, causeNumber, faultNumber, ofRun, ofAudit}
 use Rattle.model.specs.Calls.{Outcome}
-use Rattle.host.specs.Said.{codeOf, told, Said, SaidOfAudit}
+use Rattle.host.specs.Said.{told, Said, SaidOfAudit}
 
 -- a reply with totals, and one with none
 saying : {totals : Totals} {before after : List ℕ} → after ≡ told totals before

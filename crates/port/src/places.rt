@@ -1,5 +1,4 @@
 // A list whose first `held` places are in use.
-ghost use mathlib.Core.Path.{_≡_};
 ghost use Prim.Native.Nat.{_≤_, _<_};
 ghost use lib.ListN.{length};
 ghost use Rattle.port.specs.State.{TakenOut};

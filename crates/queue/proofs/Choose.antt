@@ -1,13 +1,13 @@
 -- The code's tests lead to the choice that the definitions make; and the choice, applied to the queue, is the rule's decision.
-use Prim.Native.Nat.{ℕ, zero, suc, min, _*_, _≤_, _<_}
+use Prim.Native.Nat.{ℕ, suc, min, _*_, _≤_, _<_}
 use mathlib.Core.Path.{_≡_, refl, sym, ap, _∙_}
 use mathlib.Core.Bool.{Bool, true, false, cond}
-use mathlib.Core.List.{List, [], _∷_, _++_, map}
+use mathlib.Core.List.{List, [], _∷_, _++_}
 use native.Mathlib.Omega.{arith}
 use native.Mathlib.Nat.{mul-le-mul-right}
 use lib.ListN.{length, getD, length-map}
-use lib.Dec.{ltb, leb}
-use borrow.Author.Tests.{lt-ltb, le-ltb, le-leb, lt-leb, leb-true, leb-false}
+use lib.Dec.{leb}
+use borrow.Author.Tests.{lt-ltb, le-ltb, leb-true, leb-false}
 use Rattle.model.specs.declared.Packet.{Packet}
 use Rattle.model.specs.declared.Beta.{Beta}
 use Rattle.model.specs.declared.LossKind.the-variants.{PushedOut, Preempted}

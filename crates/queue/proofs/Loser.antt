@@ -1,7 +1,7 @@
 -- The loser by its definition is the arrival where the arrival is no dearer than the lowest held value, and else the newest packet with that value.
-use Prim.Native.Nat.{ℕ, zero, suc, min, _*_, _≤_, _<_}
-use mathlib.Core.Path.{_≡_, refl, ap, sym, _∙_}
-use mathlib.Core.Bool.{Bool, true, false, cond, and-false}
+use Prim.Native.Nat.{ℕ, suc, min, _≤_, _<_}
+use mathlib.Core.Path.{_≡_, refl, ap}
+use mathlib.Core.Bool.{Bool, true, false, and-false}
 use mathlib.Core.List.{List, [], _∷_, _++_}
 use native.Mathlib.Omega.{arith}
 use lib.ListN.{length}

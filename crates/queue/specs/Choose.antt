@@ -1,12 +1,12 @@
 -- A rule's decision on an arrival, from the values alone, and what it makes of the queue.
-use Prim.Native.Nat.{ℕ, zero, suc, min, _-_, _^_}
-use mathlib.Core.Bool.{Bool, cond}
+use Prim.Native.Nat.{ℕ, suc, min, _-_, _^_}
+use mathlib.Core.Bool.{cond}
 use mathlib.Core.List.{List, [], _∷_, _++_}
 use lib.ListN.{length, getD}
-use lib.Dec.{leb, ltb, eqb}
+use lib.Dec.{ltb, eqb}
 use Rattle.model.specs.declared.Packet.{Packet}
 use Rattle.model.specs.declared.LossKind.the-variants.{PushedOut, Preempted}
-use Rattle.model.specs.Packets.{nobody, valuesOf}
+use Rattle.model.specs.Packets.{nobody}
 use Rattle.model.specs.Course.{Decided, held, rejected, losing}
 use Rattle.model.specs.Policies.Greedy.{loserAt, without, greedyRule}
 use Rattle.model.specs.Policies.PG.{preemptedAt, pgRule}

@@ -1,23 +1,21 @@
 -- A call's answer: the totals are those of the record that was written, and a refusal or a run is what model's call says of the verdict.
-use Prim.Native.Nat.{ℕ, suc, _+_}
+use Prim.Native.Nat.{ℕ}
 use mathlib.Core.Path.{_≡_, refl, sym, ap, ap₂, subst, _∙_}
-use mathlib.Core.Bool.{Bool, true, false, cond}
-use mathlib.Core.List.{List, [], _∷_}
+use mathlib.Core.Bool.{Bool, true, false}
+use mathlib.Core.List.{List}
 use native.Mathlib.Omega.{arith}
 use lib.ListN.{length, getD}
 use lib.Dec.{eqb}
-use Rattle.model.specs.declared.Fate.{Fate}
-use Rattle.model.specs.declared.Fate.the-variants.{Sent, Rejected, PushedOut, Preempted, Flushed}
 use Rattle.model.specs.declared.Totals.{Totals}
 use Rattle.model.specs.declared.Cause.{Cause}
 use Rattle.model.specs.declared.Cause.the-variants as causes
 use Rattle.model.specs.declared.Refusal.{Refusal}
 use Rattle.model.specs.declared.RunAnswer.the-variants.{Ran, Refused}
 use Rattle.model.specs.Limits.{recordLimits}
-use Rattle.model.specs.Packets.{arrivalsFrom, arrivals}
-use Rattle.model.specs.Record.{Entry, Lists, entered, recordOf, rowsOf, rows, fateNumber}
-use Rattle.model.specs.Rules.{Verdict, clear, hasFate, countOf}
-use Rattle.model.specs.Totals.{valueOf, tally, totalsOf}
+use Rattle.model.specs.Packets.{arrivals}
+use Rattle.model.specs.Record.{Entry, Lists, entered, recordOf, rows}
+use Rattle.model.specs.Rules.{Verdict, clear}
+use Rattle.model.specs.Totals.{totalsOf}
 use Rattle.model.specs.Course.{Policy, course, first}
 use Rattle.model.specs.Refusals.{valueOk}
 use Rattle.model.specs.Answers.{causeNumber}
@@ -27,7 +25,7 @@ use Rattle.laws.proofs.Lawful.{Lawful}
 use Rattle.laws.proofs.Held.{mostQueue}
 use Rattle.trace.specs.Tested.{Tested}
 use Rattle.trace.proofs.Accepted.{within-to}
-use Rattle.steps.specs.Totals.{countIn, sumIn, Countable, tallyBy, totalsBy}
+use Rattle.steps.specs.Totals.{Countable, totalsBy}
 use Rattle.steps.specs.Calls.{outcome, Ready}
 use Rattle.steps.proofs.Totalling.{rows-totals}
 

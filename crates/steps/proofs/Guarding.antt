@@ -21,6 +21,9 @@ module _ (test : Bool) (P F : Type 0) where
   pub passed : test ≡ true → Guarded test P F → P
   passed e g = subst (λ (b : Bool). Guarded b P F) e g
 
+  pub failed : test ≡ false → Guarded test P F → F
+  failed e g = subst (λ (b : Bool). Guarded b P F) e g
+
 module _ (w : Window) (numbers values : List ℕ) where
   pub within-lies : Within w numbers values → liesWithin w numbers values ≡ true
   unfolding liesWithin

@@ -25,11 +25,15 @@ sumIn f values [] = 0
 sumIn f [] (g ∷ fates) = 0
 sumIn f (v ∷ values) (g ∷ fates) = cond (eqb g f) v 0 + sumIn f values fates
 
+-- no value is above the greatest
+abbrev pub ValuesFit : List ℕ → Type 0
+ValuesFit values = (k : ℕ) → k < length values → getD values k 0 ≤ recordLimits .value
+
 -- a record that can be counted: as many fates as values and not too many, each value in range
 pub record Countable (values fates : List ℕ) : Type 0 where
   pub same : length values ≡ length fates
   pub few : length fates ≤ recordLimits .packets
-  pub values-fit : (k : ℕ) → k < length values → getD values k 0 ≤ recordLimits .value
+  pub values-fit : ValuesFit values
 
 abbrev pub tallyBy : List ℕ → List ℕ → Fate → Tally
 tallyBy values fates f = record { count = countIn (fateNumber f) fates; value = sumIn (fateNumber f) values fates }

@@ -1,33 +1,74 @@
-// The totals of a record, in one pass over it, whatever its fates. One that can't be counted, of more packets or greater values than a trace has, has none.
+// The totals of a record, whatever its fates. One that can't be counted, of more packets or greater values than a trace has, has none. Nothing is decided
+// on the way through the lists, so a turn costs little.
 ghost use mathlib.Core.Path.{_≡_};
-ghost use Rattle.model.specs.Record.{fateNumber};
+ghost use mathlib.Core.Bool.{cond};
+ghost use Prim.Native.Nat.{_≤_};
+ghost use lib.ListN.{length};
+ghost use lib.Dec.{eqb};
+ghost use Rattle.model.specs.Limits.{recordLimits};
 ghost use Rattle.model.specs.Totals.{noTotals};
-ghost use Rattle.steps.specs.Totals.{CountedOrNone};
-ghost use Prim.Native.Nat.{min};
-ghost use lib.ListN.{getD};
+ghost use Rattle.laws.proofs.WellFormed.{sum};
+ghost use Rattle.steps.specs.Guarded.{Guarded};
+ghost use Rattle.steps.specs.Totals.{ValuesFit, Countable, tallyBy, CountedOrNone};
 use model::Fate;
 use model::Record;
 use model::Tally;
 use model::Totals;
 
-// A place for each number of a fate, from 0, and one for all other numbers.
-const PLACES: usize = 7;
-
-fn place_of(fate: u32) -> usize
-    ensures { λ r. ⌜ r ≡ min fate 6 ⌝ }
+// The number under a test, else 0.
+pub fn only_if(test: bool, n: u32) -> u32
+    ensures { λ r. ⌜ r ≡ cond test n 0 ⌝ }
 {
-    if fate < 6 { fate as usize } else { 6 }
+    if test { n } else { 0 }
 }
 
-// The tally of one fate, of the counts and sums of all.
-fn tally_of(counts: [u32; PLACES], sums: [u32; PLACES], fate: Fate) -> Tally
-    ensures { λ r. ⌜ r ≡ record { count = getD counts (fateNumber fate) 0; value = getD sums (fateNumber fate) 0 } ⌝ }
+fn is_same(a: u32, b: u32) -> bool
+    ensures { λ r. ⌜ r ≡ eqb a b ⌝ }
 {
-    let f = fate.number() as usize;
-    Tally {
-        count: counts[f],
-        value: sums[f],
+    a == b
+}
+
+fn values_fit(values: &[u32]) -> bool
+    ensures { λ r. ⌜ Guarded r (ValuesFit (now (values .entry))) (ValuesFit (now (values .entry)) → ⊥) ⌝ }
+{
+    let mut bad = false;
+    let mut i = 0;
+    while i < values.len() {
+        bad = bad | (Record::VALUE < values[i]);
+        i += 1;
     }
+    !bad
+}
+
+fn sum_of(values: &[u32]) -> u32
+    requires { ⌜ length (now values) ≤ recordLimits .packets ⌝ }
+    requires { ⌜ ValuesFit (now values) ⌝ }
+    ensures { λ r. ⌜ r ≡ sum (now (values .entry)) ⌝ }
+{
+    let mut all = 0;
+    let mut i = 0;
+    while i < values.len() {
+        all += values[i];
+        i += 1;
+    }
+    all
+}
+
+fn tally_of(values: &[u32], fates: &[u32], fate: Fate) -> Tally
+    requires { ⌜ Countable (now values) (now fates) ⌝ }
+    ensures { λ r. ⌜ r ≡ tallyBy (now (values .entry)) (now (fates .entry)) fate ⌝ }
+{
+    let number = fate.number();
+    let mut count = 0;
+    let mut value = 0;
+    let mut i = 0;
+    while i < fates.len() {
+        let counted = is_same(fates[i], number);
+        count += only_if(counted, 1);
+        value += only_if(counted, values[i]);
+        i += 1;
+    }
+    Tally { count, value }
 }
 
 fn none() -> Totals
@@ -54,26 +95,15 @@ pub fn totals(values: &[u32], fates: &[u32], most: u32) -> Totals
     if Record::PACKETS < fates.len() {
         return none();
     }
-    let mut counts = [0u32; PLACES];
-    let mut sums = [0u32; PLACES];
-    let mut all = 0;
-    let mut i = 0;
-    while i < fates.len() {
-        let v = values[i];
-        if Record::VALUE < v {
-            return none();
-        }
-        let f = place_of(fates[i]);
-        counts[f] += 1;
-        sums[f] += v;
-        all += v;
-        i += 1;
+    if !values_fit(values) {
+        return none();
     }
-    let sent = tally_of(counts, sums, Fate::Sent);
-    let rejected = tally_of(counts, sums, Fate::Rejected);
-    let pushed_out = tally_of(counts, sums, Fate::PushedOut);
-    let preempted = tally_of(counts, sums, Fate::Preempted);
-    let flushed = tally_of(counts, sums, Fate::Flushed);
+    let all = sum_of(values);
+    let sent = tally_of(values, fates, Fate::Sent);
+    let rejected = tally_of(values, fates, Fate::Rejected);
+    let pushed_out = tally_of(values, fates, Fate::PushedOut);
+    let preempted = tally_of(values, fates, Fate::Preempted);
+    let flushed = tally_of(values, fates, Fate::Flushed);
     Totals {
         arrived: Tally {
             count: fates.len() as u32,

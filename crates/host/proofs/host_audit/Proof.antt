@@ -3,10 +3,6 @@ use Rattle.host.proofs.Saying.{said-of-audit}
 use borrow.Author.Needs.{needs}
 use Rattle.host.proofs.host_audit.Statement.{statement}
 use Rattle.host.proofs.host_audit.Tie as tie
-use Rattle.host.proofs.host_audit.Reads as reads
-use Rattle.host.proofs.host_audit.Lts as lts
-use Rattle.audit.proofs.audit.Reads as audit-reads
-use Rattle.host.proofs.said.say_audit.Reads as say-audit-reads
 
 audit-requires : tie.Need-audit-requires
 audit-requires c κs = search needs

@@ -3,10 +3,6 @@ use Rattle.host.proofs.Saying.{said}
 use borrow.Author.Needs.{needs}
 use Rattle.host.proofs.host_greedy.Statement.{statement}
 use Rattle.host.proofs.host_greedy.Tie as tie
-use Rattle.host.proofs.host_greedy.Reads as reads
-use Rattle.host.proofs.host_greedy.Lts as lts
-use Rattle.host.proofs.said.say_run.Reads as say-run-reads
-use Rattle.runs.proofs.calls.greedy.Reads as greedy-reads
 
 greedy-requires : tie.Need-greedy-requires
 greedy-requires c κs = search needs

@@ -3,10 +3,6 @@ use Rattle.host.proofs.Saying.{said}
 use borrow.Author.Needs.{needs}
 use Rattle.host.proofs.host_mf.Statement.{statement}
 use Rattle.host.proofs.host_mf.Tie as tie
-use Rattle.host.proofs.host_mf.Reads as reads
-use Rattle.host.proofs.host_mf.Lts as lts
-use Rattle.host.proofs.said.say_run.Reads as say-run-reads
-use Rattle.mf.proofs.calls.mf.Reads as mf-reads
 
 mf-requires : tie.Need-mf-requires
 mf-requires c κs = search needs

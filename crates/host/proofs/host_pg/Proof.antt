@@ -3,10 +3,6 @@ use Rattle.host.proofs.Saying.{said}
 use borrow.Author.Needs.{needs}
 use Rattle.host.proofs.host_pg.Statement.{statement}
 use Rattle.host.proofs.host_pg.Tie as tie
-use Rattle.host.proofs.host_pg.Reads as reads
-use Rattle.host.proofs.host_pg.Lts as lts
-use Rattle.host.proofs.said.say_run.Reads as say-run-reads
-use Rattle.runs.proofs.calls.pg.Reads as pg-reads
 
 pg-requires : tie.Need-pg-requires
 pg-requires c κs = search needs

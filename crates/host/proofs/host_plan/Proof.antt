@@ -3,10 +3,6 @@ use Rattle.host.proofs.Saying.{said}
 use borrow.Author.Needs.{needs}
 use Rattle.host.proofs.host_plan.Statement.{statement}
 use Rattle.host.proofs.host_plan.Tie as tie
-use Rattle.host.proofs.host_plan.Reads as reads
-use Rattle.host.proofs.host_plan.Lts as lts
-use Rattle.host.proofs.said.say_run.Reads as say-run-reads
-use Rattle.plan.proofs.calls.plan.Reads as plan-reads
 
 plan-requires : tie.Need-plan-requires
 plan-requires c κs = search needs

@@ -5,10 +5,6 @@ use Rattle.host.specs.Live.{heard}
 use borrow.Author.Needs.{needs}
 use Rattle.host.proofs.host_port.Statement.{statement}
 use Rattle.host.proofs.host_port.Tie as tie
-use Rattle.host.proofs.host_port.Reads as reads
-use Rattle.host.proofs.host_port.Lts as lts
-use Rattle.host.proofs.live.feed.Reads as feed-reads
-use Rattle.port.proofs.Port.new.Reads as new-reads
 
 new-requires : tie.Need-new-requires
 new-requires c κs = search needs

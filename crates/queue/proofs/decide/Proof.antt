@@ -5,28 +5,19 @@ use Rattle.queue.proofs.Choose.{plain}
 use borrow.Author.Needs.{needs}
 use Rattle.queue.proofs.decide.Statement.{statement}
 use Rattle.queue.proofs.decide.Tie as tie
-use Rattle.queue.proofs.decide.Reads as reads
-use Rattle.queue.proofs.decide.Lts as lts
-use Rattle.queue.proofs.greedy.Reads as greedy-reads
-use Rattle.queue.proofs.pg.Reads as pg-reads
 
--- src/lib.rt:112:25
 enum-told : tie.Need-enum-told
 enum-told c = search needs
 
--- src/lib.rt:112:25
 greedy-requires : tie.Need-greedy-requires
 greedy-requires c κs = search needs
 
--- src/lib.rt:113:18
 enum-known-rule : tie.Need-enum-known-rule
 enum-known-rule c = search needs
 
--- src/lib.rt:113:27
 pg-requires : tie.Need-pg-requires
 pg-requires c κs = search needs
 
--- src/lib.rt:108:1
 returns : tie.Need-returns
 returns c =
     let a = c .before .before .before .before .args in
@@ -34,7 +25,6 @@ returns c =
     ∙ sym (plain (a .values .now) (a .arrival) (a .room))
     ∙ ap (λ (rule : Rule). choose (a .room) rule (a .values .now) (a .arrival)) (sym (c .before .enum-told .given .1))
 
--- src/lib.rt:108:1
 returns-2 : tie.Need-returns-2
 returns-2 c =
     let a = c .before .before .before .before .before .args in

@@ -4,8 +4,6 @@ use lib.ListN.{length}
 use Rattle.queue.proofs.Search.{NoneFrom, none-past-end, newest-here, none-here, none-at-all}
 use Rattle.queue.proofs.newest.Statement.{statement}
 use Rattle.queue.proofs.newest.Tie as tie
-use Rattle.queue.proofs.newest.Reads as reads
-use Rattle.queue.proofs.newest.Lts as lts
 
 abbrev Inv-loop : tie.InvT-loop
 Inv-loop values value i₀ i = (i ≤ length values) × NoneFrom value values i
@@ -13,43 +11,35 @@ Inv-loop values value i₀ i = (i ≤ length values) × NoneFrom value values i
 abbrev μ-loop : tie.MeasureT-loop
 μ-loop values value i₀ i = i
 
--- src/lib.rt:41:5
 loop-holds : tie.Need-loop-holds Inv-loop μ-loop
 loop-holds c =
     let a = c .args in
     (omega arith, none-past-end (a .value) (a .values .now) (length (a .values .now)) (omega arith))
 
--- src/lib.rt:42:9
 sub-i : tie.Need-sub-i Inv-loop μ-loop
 sub-i c = omega arith
 
--- src/lib.rt:43:12
 mul-if1 : tie.Need-mul-if1 Inv-loop μ-loop
 mul-if1 c = omega arith
 
--- src/lib.rt:43:12
 shared-slice-read-if1 : tie.Need-shared-slice-read-if1 Inv-loop μ-loop
 shared-slice-read-if1 c = omega arith
 
--- src/lib.rt:44:13
 returns : tie.Need-returns Inv-loop μ-loop
 returns c =
     let loop = c .before .before .before in
     let a = loop .before .args in
     newest-here (a .value) (a .values .now) (loop .loop .i - 1) (loop .loop .i) (omega arith) (omega arith) (loop .loop .inv .1) (c .if1 .taken)
 
--- src/lib.rt:41:5
 loop-less : tie.Need-loop-less Inv-loop μ-loop
 loop-less c = omega arith
 
--- src/lib.rt:41:5
 loop-again : tie.Need-loop-again Inv-loop μ-loop
 loop-again c =
     let loop = c .before .before .before in
     let a = loop .before .args in
     (omega arith, none-here (a .value) (a .values .now) (loop .loop .i - 1) (loop .loop .i) (omega arith) (omega arith) (loop .loop .inv .1) (c .if1 .left))
 
--- src/lib.rt:37:1
 returns-2 : tie.Need-returns-2 Inv-loop μ-loop
 returns-2 c =
     let a = c .before .before .args in

@@ -8,52 +8,36 @@ use Rattle.queue.proofs.Choose.{greedy-holds, greedy-overflows, not-pre
 use borrow.Author.Needs.{needs}
 use Rattle.queue.proofs.pg.Statement.{statement}
 use Rattle.queue.proofs.pg.Tie as tie
-use Rattle.queue.proofs.pg.Reads as reads
-use Rattle.queue.proofs.pg.Lts as lts
-use Rattle.queue.proofs.greedy.Reads as greedy-reads
-use Rattle.queue.proofs.lowest.Reads as lowest-reads
-use Rattle.queue.proofs.overflow.Reads as overflow-reads
-use Rattle.queue.proofs.preempted.Reads as preempted-reads
 
--- src/lib.rt:93:9
 greedy-requires : tie.Need-greedy-requires
 greedy-requires c κs = search needs
 
--- src/lib.rt:93:9
 returns : tie.Need-returns
 returns c =
     let a = c .before .before .before .args in
     c .greedy .ensures ∙ sym (not-preempted (a .values .now) (a .arrival) (a .room) (a .beta) (omega arith))
 
--- src/lib.rt:95:9
 lowest-requires : tie.Need-lowest-requires
 lowest-requires c κs = search needs
 
--- src/lib.rt:96:9
 cast-if2 : tie.Need-cast-if2
 cast-if2 c = search needs
 
--- src/lib.rt:96:24
 cast-if2-2 : tie.Need-cast-if2-2
 cast-if2-2 c = search needs
 
--- src/lib.rt:96:8
 mul-if2 : tie.Need-mul-if2
 mul-if2 c = record { fits = product-fits _ _ (omega arith) (omega arith) }
 
--- src/lib.rt:96:64
 cast-if2-3 : tie.Need-cast-if2-3
 cast-if2-3 c = search needs
 
--- src/lib.rt:96:44
 mul-if2-2 : tie.Need-mul-if2-2
 mul-if2-2 c = record { fits = product-fits _ _ (omega arith) (omega arith) }
 
--- src/lib.rt:97:29
 preempted-requires : tie.Need-preempted-requires
 preempted-requires c κs = search needs
 
--- src/lib.rt:97:9
 returns-2 : tie.Need-returns-2
 returns-2 c =
     let else = c .before .before .before .before .before in
@@ -63,18 +47,15 @@ returns-2 c =
     (rw (← (c .before .before .before .before .lowest .ensures)) (c .before .if2 .taken)) in
     ap (λ (place : ℕ). Lose place Preempted) (c .preempted .ensures) ∙ preempts (a .values .now) (a .arrival) (a .room) (a .beta) some
 
--- src/lib.rt:102:9
 overflow-requires : tie.Need-overflow-requires
 overflow-requires c κs = search needs
 
--- src/lib.rt:89:1
 returns-3 : tie.Need-returns-3
 returns-3 c =
     let a = c .before .before .before .before .before .before .before .args in
     let none = lowest-stays (a .beta) (a .arrival) (a .values .now) (rw (c .before .before .before .before .lowest .ensures) at (c .before .if2 .left)) in
     greedy-holds (a .values .now) (a .arrival) (a .room) (c .if3 .taken) ∙ sym (not-preempted (a .values .now) (a .arrival) (a .room) (a .beta) none)
 
--- src/lib.rt:89:1
 returns-4 : tie.Need-returns-4
 returns-4 c =
     let a = c .before .before .before .before .before .before .before .before .args in

@@ -6,8 +6,6 @@ use Rattle.model.specs.Policies.PG.{preemptedAt}
 use Rattle.queue.proofs.Search.{preempted-here, preempted-turn, preempted-none, product-fits}
 use Rattle.queue.proofs.preempted.Statement.{statement}
 use Rattle.queue.proofs.preempted.Tie as tie
-use Rattle.queue.proofs.preempted.Reads as reads
-use Rattle.queue.proofs.preempted.Lts as lts
 
 abbrev Inv-loop : tie.InvT-loop
 Inv-loop values beta arrival limit i₀ i =
@@ -16,61 +14,48 @@ Inv-loop values beta arrival limit i₀ i =
 abbrev μ-loop : tie.MeasureT-loop
 μ-loop values beta arrival limit i₀ i = length values - i
 
--- src/lib.rt:54:37
 cast-limit : tie.Need-cast-limit Inv-loop μ-loop
 cast-limit c = omega arith
 
--- src/lib.rt:54:17
 mul-limit : tie.Need-mul-limit Inv-loop μ-loop
 mul-limit c = record { fits = product-fits _ _ (omega arith) (omega arith) }
 
--- src/lib.rt:56:5
 loop-holds : tie.Need-loop-holds Inv-loop μ-loop
 loop-holds c = omega arith
 
--- src/lib.rt:57:13
 mul-if1 : tie.Need-mul-if1 Inv-loop μ-loop
 mul-if1 c = omega arith
 
--- src/lib.rt:57:13
 shared-slice-read-if1 : tie.Need-shared-slice-read-if1 Inv-loop μ-loop
 shared-slice-read-if1 c = omega arith
 
--- src/lib.rt:57:13
 cast-if1 : tie.Need-cast-if1 Inv-loop μ-loop
 cast-if1 c = omega (arith, c .shared-slice-known .given (c .before .before .loop .i))
 
--- src/lib.rt:57:34
 cast-if1-2 : tie.Need-cast-if1-2 Inv-loop μ-loop
 cast-if1-2 c = omega arith
 
--- src/lib.rt:57:12
 mul-if1-2 : tie.Need-mul-if1-2 Inv-loop μ-loop
 mul-if1-2 c = record { fits = product-fits _ _ (omega (arith, c .before .shared-slice-known .given (c .before .before .before .loop .i))) (omega arith) }
 
--- src/lib.rt:58:13
 returns : tie.Need-returns Inv-loop μ-loop
 returns c =
     let loop = c .before .before .before .before in
     let a = loop .before .before .args in
     omega (arith, preempted-here (a .values .now) (loop .loop .i) (omega arith) (a .beta) (a .arrival) (c .if1 .taken))
 
--- src/lib.rt:60:9
 add-i : tie.Need-add-i Inv-loop μ-loop
 add-i c = omega arith
 
--- src/lib.rt:56:5
 loop-less : tie.Need-loop-less Inv-loop μ-loop
 loop-less c = omega arith
 
--- src/lib.rt:56:5
 loop-again : tie.Need-loop-again Inv-loop μ-loop
 loop-again c =
     let loop = c .before .before .before .before in
     let a = loop .before .before .args in
     omega (arith, preempted-turn (a .values .now) (loop .loop .i) (omega arith) (a .beta) (a .arrival) (c .if1 .left))
 
--- src/lib.rt:51:1
 returns-2 : tie.Need-returns-2 Inv-loop μ-loop
 returns-2 c =
     let a = c .before .before .before .args in

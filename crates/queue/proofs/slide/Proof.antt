@@ -6,8 +6,6 @@ use lib.Seq.{paste}
 use Rattle.queue.proofs.Moving.{Moved, moved-none, moved-more, slid-moved, slid-up, slid-back, slid-past}
 use Rattle.queue.proofs.slide.Statement.{statement}
 use Rattle.queue.proofs.slide.Tie as tie
-use Rattle.queue.proofs.slide.Reads as reads
-use Rattle.queue.proofs.slide.Lts as lts
 
 abbrev Inv-loop : tie.InvT-loop
 Inv-loop list₀ from end to i₀ list i =
@@ -16,57 +14,44 @@ Inv-loop list₀ from end to i₀ list i =
 abbrev μ-loop : tie.MeasureT-loop
 μ-loop list₀ from end to i₀ list i = end - from - i
 
--- src/lib.rt:122:9
 returns : tie.Need-returns Inv-loop μ-loop
 returns c = sym (slid-up _ _ _ _ (c .if1 .taken))
 
--- src/lib.rt:125:9
 returns-2 : tie.Need-returns-2 Inv-loop μ-loop
 returns-2 c = sym (slid-back _ _ _ _ (c .if2 .taken))
 
--- src/lib.rt:128:9
 returns-3 : tie.Need-returns-3 Inv-loop μ-loop
 returns-3 c = sym (slid-past _ _ _ _ (c .if3 .taken))
 
--- src/lib.rt:131:5
 loop-holds : tie.Need-loop-holds Inv-loop μ-loop
 loop-holds c =
     let a = c .before .before .before .args in
     (omega arith, refl, moved-none (a .from) (a .end) (a .to) (a .list .now))
 
--- src/lib.rt:132:29
 add-list : tie.Need-add-list Inv-loop μ-loop
 add-list c = omega arith
 
--- src/lib.rt:132:24
 mul-list : tie.Need-mul-list Inv-loop μ-loop
 mul-list c = omega arith
 
--- src/lib.rt:132:24
 slice-read-list : tie.Need-slice-read-list Inv-loop μ-loop
 slice-read-list c = omega arith
 
--- src/lib.rt:132:14
 add-list-2 : tie.Need-add-list-2 Inv-loop μ-loop
 add-list-2 c = omega arith
 
--- src/lib.rt:132:9
 mul-list-2 : tie.Need-mul-list-2 Inv-loop μ-loop
 mul-list-2 c = omega arith
 
--- src/lib.rt:132:9
 slice-write-list : tie.Need-slice-write-list Inv-loop μ-loop
 slice-write-list c = omega arith
 
--- src/lib.rt:133:9
 add-i : tie.Need-add-i Inv-loop μ-loop
 add-i c = omega arith
 
--- src/lib.rt:131:5
 loop-less : tie.Need-loop-less Inv-loop μ-loop
 loop-less c = omega arith
 
--- src/lib.rt:131:5
 loop-again : tie.Need-loop-again Inv-loop μ-loop
 loop-again c =
     let loop = c .before .before in
@@ -76,11 +61,9 @@ loop-again c =
       moved-more (a .from) (a .end) (a .to) (a .list .now) (omega arith) (loop .loop .i) (omega arith) _ (loop .loop .inv .2),
     )
 
--- src/lib.rt:118:1
 same-length : tie.Need-same-length Inv-loop μ-loop
 same-length c = omega arith
 
--- src/lib.rt:118:1
 returns-4 : tie.Need-returns-4 Inv-loop μ-loop
 returns-4 c =
     let loop = c .before in

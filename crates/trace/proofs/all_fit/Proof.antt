@@ -4,10 +4,6 @@ use Rattle.trace.proofs.Fitting.{plain-clear, no-claim}
 use borrow.Author.Needs.{needs}
 use Rattle.trace.proofs.all_fit.Statement.{statement}
 use Rattle.trace.proofs.all_fit.Tie as tie
-use Rattle.trace.proofs.all_fit.Reads as reads
-use Rattle.trace.proofs.all_fit.Lts as lts
-use Rattle.trace.proofs.slots_fit.Reads as slots-fit-reads
-use Rattle.trace.proofs.values_fit.Reads as values-fit-reads
 
 enum-told : tie.Need-enum-told
 enum-told c = search needs

@@ -3,10 +3,6 @@ use mathlib.Core.Path.{sym}
 use borrow.Author.Needs.{needs}
 use Rattle.trace.proofs.packets_or_none.Statement.{statement}
 use Rattle.trace.proofs.packets_or_none.Tie as tie
-use Rattle.trace.proofs.packets_or_none.Reads as reads
-use Rattle.trace.proofs.packets_or_none.Lts as lts
-use Rattle.trace.proofs.all_fit.Reads as all-fit-reads
-use Rattle.trace.proofs.packets.Reads as packets-reads
 
 all-fit-requires : tie.Need-all-fit-requires
 all-fit-requires c κs = search needs

@@ -7,12 +7,10 @@ use native.Mathlib.Omega.{arith}
 use native.Mathlib.Numerals.{add-one}
 use lib.ListN.{length, getD}
 use borrow.Author.Tests.{not-true}
-use Rattle.trace.specs.Fitting.{SlotsFit, ValuesFit}
-use Rattle.trace.proofs.Fitting.{slots-more, values-more}
+use Rattle.trace.specs.Fitting.{SlotsFit}
+use Rattle.trace.proofs.Fitting.{slots-more}
 use Rattle.trace.proofs.slots_fit.Statement.{statement}
 use Rattle.trace.proofs.slots_fit.Tie as tie
-use Rattle.trace.proofs.slots_fit.Reads as reads
-use Rattle.trace.proofs.slots_fit.Lts as lts
 
 abbrev Inv-loop : tie.InvT-loop
 Inv-loop slots bad₀ last₀ i₀ bad last i =

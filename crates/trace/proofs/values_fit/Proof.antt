@@ -2,17 +2,13 @@
 use Prim.Native.Nat.{_≤_, _-_}
 use mathlib.Core.Path.{_≡_, refl}
 use mathlib.Core.Bool.{false}
-use mathlib.Core.List.{_∷_}
 use native.Mathlib.Omega.{arith}
-use native.Mathlib.Numerals.{add-one}
-use lib.ListN.{length, getD}
+use lib.ListN.{length}
 use borrow.Author.Tests.{not-true}
-use Rattle.trace.specs.Fitting.{SlotsFit, ValuesFit}
-use Rattle.trace.proofs.Fitting.{slots-more, values-more}
+use Rattle.trace.specs.Fitting.{ValuesFit}
+use Rattle.trace.proofs.Fitting.{values-more}
 use Rattle.trace.proofs.values_fit.Statement.{statement}
 use Rattle.trace.proofs.values_fit.Tie as tie
-use Rattle.trace.proofs.values_fit.Reads as reads
-use Rattle.trace.proofs.values_fit.Lts as lts
 
 abbrev Inv-loop : tie.InvT-loop
 Inv-loop values bad₀ i₀ bad i = (i ≤ length values) × (bad ≡ false → ValuesFit values i)

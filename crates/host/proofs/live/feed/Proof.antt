@@ -1,7 +1,7 @@
 -- `host::live::feed` meets its contract. The loop's invariant: what is heard of the events that are left, from the port and the sum so far, is what is heard of
 -- all of them.
 use Prim.Native.Nat.{_≤_, _<_, _-_, _^_}
-use mathlib.Core.Path.{_≡_, refl, sym, ap, _∙_}
+use mathlib.Core.Path.{_≡_, refl, sym, _∙_}
 use mathlib.Core.Logic.{⊎-elim}
 use native.Mathlib.Omega.{arith}
 use lib.ListN.{length, drop}
@@ -11,12 +11,6 @@ use Rattle.host.specs.Live.{heard}
 use Rattle.host.proofs.Hearing.{mixed-fits, heard-done, heard-end, heard-arrival}
 use Rattle.host.proofs.live.feed.Statement.{statement}
 use Rattle.host.proofs.live.feed.Tie as tie
-use Rattle.host.proofs.live.feed.Reads as reads
-use Rattle.host.proofs.live.feed.Lts as lts
-use Rattle.host.proofs.live.mix_arrival.Reads as mix-arrival-reads
-use Rattle.host.proofs.live.mix_slot.Reads as mix-slot-reads
-use Rattle.port.proofs.Port.arrive.Reads as arrive-reads
-use Rattle.port.proofs.Port.end_of_slot.Reads as end-of-slot-reads
 
 abbrev Inv-loop : tie.InvT-loop
 Inv-loop events left₀ sum₀ i₀ left sum i =

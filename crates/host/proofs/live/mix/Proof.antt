@@ -4,8 +4,6 @@ use Rattle.host.specs.Live.{mixed}
 use borrow.Author.Needs.{needs}
 use Rattle.host.proofs.live.mix.Statement.{statement}
 use Rattle.host.proofs.live.mix.Tie as tie
-use Rattle.host.proofs.live.mix.Reads as reads
-use Rattle.host.proofs.live.mix.Lts as lts
 
 mul-result : tie.Need-mul-result
 mul-result c = search needs

@@ -5,12 +5,6 @@ use Rattle.host.proofs.Hearing.{of-held, of-losing, of-rejected, of-ref
 use borrow.Author.Needs.{needs}
 use Rattle.host.proofs.live.mix_arrival.Statement.{statement}
 use Rattle.host.proofs.live.mix_arrival.Tie as tie
-use Rattle.host.proofs.live.mix_arrival.Reads as reads
-use Rattle.host.proofs.live.mix_arrival.Lts as lts
-use Rattle.host.proofs.live.mix.Reads as mix-reads
-use Rattle.model.proofs.Cause.number.Reads as Cause-number-reads
-use Rattle.model.proofs.Fate.number.Reads as Fate-number-reads
-use Rattle.model.proofs.LossKind.fate.Reads as fate-reads
 
 enum-known-answer : tie.Need-enum-known-answer
 enum-known-answer c = search needs

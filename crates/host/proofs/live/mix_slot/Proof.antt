@@ -3,11 +3,6 @@ use Rattle.host.proofs.Hearing.{of-sent, of-idle, of-slot-refused}
 use borrow.Author.Needs.{needs}
 use Rattle.host.proofs.live.mix_slot.Statement.{statement}
 use Rattle.host.proofs.live.mix_slot.Tie as tie
-use Rattle.host.proofs.live.mix_slot.Reads as reads
-use Rattle.host.proofs.live.mix_slot.Lts as lts
-use Rattle.host.proofs.live.mix.Reads as mix-reads
-use Rattle.model.proofs.Cause.number.Reads as Cause-number-reads
-use Rattle.model.proofs.Fate.number.Reads as Fate-number-reads
 
 enum-known-answer : tie.Need-enum-known-answer
 enum-known-answer c = search needs

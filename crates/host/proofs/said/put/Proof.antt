@@ -4,8 +4,6 @@ use lib.Seq.{set-out}
 use borrow.Author.Needs.{needs}
 use Rattle.host.proofs.said.put.Statement.{statement}
 use Rattle.host.proofs.said.put.Tie as tie
-use Rattle.host.proofs.said.put.Reads as reads
-use Rattle.host.proofs.said.put.Lts as lts
 
 mul-list : tie.Need-mul-list
 mul-list c = search needs

@@ -2,9 +2,6 @@
 use borrow.Author.Needs.{needs}
 use Rattle.host.proofs.said.put_tally.Statement.{statement}
 use Rattle.host.proofs.said.put_tally.Tie as tie
-use Rattle.host.proofs.said.put_tally.Reads as reads
-use Rattle.host.proofs.said.put_tally.Lts as lts
-use Rattle.host.proofs.said.put.Reads as put-reads
 
 put-requires : tie.Need-put-requires
 put-requires c κs = search needs

@@ -3,13 +3,6 @@ use Rattle.host.proofs.Saying.{passed, faulty, audit-refused}
 use borrow.Author.Needs.{needs}
 use Rattle.host.proofs.said.say_audit.Statement.{statement}
 use Rattle.host.proofs.said.say_audit.Tie as tie
-use Rattle.host.proofs.said.say_audit.Reads as reads
-use Rattle.host.proofs.said.say_audit.Lts as lts
-use Rattle.host.proofs.said.code.Reads as code-reads
-use Rattle.host.proofs.said.no_totals.Reads as no-totals-reads
-use Rattle.host.proofs.said.tell.Reads as tell-reads
-use Rattle.model.proofs.Cause.number.Reads as Cause-number-reads
-use Rattle.model.proofs.Fault.number.Reads as Fault-number-reads
 
 enum-known-answer : tie.Need-enum-known-answer
 enum-known-answer c = search needs

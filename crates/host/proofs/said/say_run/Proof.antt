@@ -3,12 +3,6 @@ use Rattle.host.proofs.Saying.{ran, run-refused}
 use borrow.Author.Needs.{needs}
 use Rattle.host.proofs.said.say_run.Statement.{statement}
 use Rattle.host.proofs.said.say_run.Tie as tie
-use Rattle.host.proofs.said.say_run.Reads as reads
-use Rattle.host.proofs.said.say_run.Lts as lts
-use Rattle.host.proofs.said.code.Reads as code-reads
-use Rattle.host.proofs.said.no_totals.Reads as no-totals-reads
-use Rattle.host.proofs.said.tell.Reads as tell-reads
-use Rattle.model.proofs.Cause.number.Reads as number-reads
 
 enum-known-answer : tie.Need-enum-known-answer
 enum-known-answer c = search needs

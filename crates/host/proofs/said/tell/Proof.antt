@@ -2,10 +2,6 @@
 use borrow.Author.Needs.{needs}
 use Rattle.host.proofs.said.tell.Statement.{statement}
 use Rattle.host.proofs.said.tell.Tie as tie
-use Rattle.host.proofs.said.tell.Reads as reads
-use Rattle.host.proofs.said.tell.Lts as lts
-use Rattle.host.proofs.said.put.Reads as put-reads
-use Rattle.host.proofs.said.put_tally.Reads as put-tally-reads
 
 put-tally-requires : tie.Need-put-tally-requires
 put-tally-requires c κs = search needs

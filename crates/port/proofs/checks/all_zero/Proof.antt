@@ -1,17 +1,14 @@
 -- `port::checks::all_zero` meets its contract: nothing bad was found and what is left passes exactly where the whole list does.
 use Prim.Native.Nat.{_≤_, _-_}
-use mathlib.Core.Path.{_≡_, refl, sym, ap, _∙_}
-use mathlib.Core.Bool.{Bool, not, _&&_, _||_}
+use mathlib.Core.Path.{_≡_, refl, _∙_}
+use mathlib.Core.Bool.{not, _&&_}
 use native.Mathlib.Omega.{arith}
-use borrow.Author.Needs.{needs}
-use lib.ListN.{length, getD, drop}
+use lib.ListN.{length, drop}
 use lib.Dec.{eqb}
 use Rattle.model.specs.Port.{all}
 use Rattle.port.proofs.Tests.{all-turn, all-done}
 use Rattle.port.proofs.checks.all_zero.Statement.{statement}
 use Rattle.port.proofs.checks.all_zero.Tie as tie
-use Rattle.port.proofs.checks.all_zero.Reads as reads
-use Rattle.port.proofs.checks.all_zero.Lts as lts
 
 abbrev Inv-loop : tie.InvT-loop
 Inv-loop places bad₀ i₀ bad i = (i ≤ length places) × ((not bad && all (eqb 0) (drop i places)) ≡ all (eqb 0) places)

@@ -1,16 +1,13 @@
 -- `port::checks::numbers_rise` meets its contract: nothing bad was found and what is left rises from the number before exactly where all rise from 0.
 use Prim.Native.Nat.{_≤_, _-_}
-use mathlib.Core.Path.{_≡_, refl, sym, ap, _∙_}
-use mathlib.Core.Bool.{Bool, not, _&&_, _||_}
+use mathlib.Core.Path.{_≡_, refl, _∙_}
+use mathlib.Core.Bool.{not, _&&_}
 use native.Mathlib.Omega.{arith}
-use borrow.Author.Needs.{needs}
-use lib.ListN.{length, getD, drop}
+use lib.ListN.{length, drop}
 use Rattle.model.specs.Port.{risesFrom}
 use Rattle.port.proofs.Tests.{rises-turn, rises-done}
 use Rattle.port.proofs.checks.numbers_rise.Statement.{statement}
 use Rattle.port.proofs.checks.numbers_rise.Tie as tie
-use Rattle.port.proofs.checks.numbers_rise.Reads as reads
-use Rattle.port.proofs.checks.numbers_rise.Lts as lts
 
 abbrev Inv-loop : tie.InvT-loop
 Inv-loop numbers last bad₀ before₀ i₀ bad before i =

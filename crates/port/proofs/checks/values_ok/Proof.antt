@@ -1,19 +1,16 @@
 -- `port::checks::values_ok` meets its contract: nothing bad was found and what is left passes exactly where the whole list does.
 use Prim.Native.Nat.{_≤_, _-_}
-use mathlib.Core.Path.{_≡_, refl, sym, ap, _∙_}
+use mathlib.Core.Path.{_≡_, refl, ap, _∙_}
 use mathlib.Core.Bool.{Bool, not, _&&_, _||_}
 use native.Mathlib.Omega.{arith}
 use borrow.Author.Needs.{needs}
-use lib.ListN.{length, getD, drop}
+use lib.ListN.{length, drop}
 use Rattle.model.specs.Refusals.{valueOk}
 use Rattle.model.specs.Port.{all}
 use Rattle.port.proofs.Tests.{all-turn, all-done}
 use Prim.Native.Nat.{_+_}
 use Rattle.port.proofs.checks.values_ok.Statement.{statement}
 use Rattle.port.proofs.checks.values_ok.Tie as tie
-use Rattle.port.proofs.checks.values_ok.Reads as reads
-use Rattle.port.proofs.checks.values_ok.Lts as lts
-use Rattle.port.proofs.ranges.value_ok.Reads as value-ok-reads
 
 abbrev Inv-loop : tie.InvT-loop
 Inv-loop values bad₀ i₀ bad i = (i ≤ length values) × ((not bad && all valueOk (drop i values)) ≡ all valueOk values)
