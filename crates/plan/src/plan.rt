@@ -131,13 +131,14 @@ fn run(
     most as u32
 }
 
-// The offline plan's run, on lent lists for the order and the kept packets: packets are taken by falling value, older first among equals, and each is kept
+// The offline plan's run, on lent lists for the order, the kept packets and how many of them are held after each arrival: packets are taken by falling value, older first among equals, and each is kept
 // that fits with those kept already.
 fn plan_on(
     slots: &[u32],
     values: &[u32],
     room: usize,
     order: &mut [u16],
+    held: &mut [u16],
     kept: &mut [u8],
     fates: &mut [u32],
     whens: &mut [u32],
@@ -145,11 +146,12 @@ fn plan_on(
 ) -> u32
     requires { ⌜ Plannable room (now slots) (now values) ⌝ }
     requires { ⌜ length (now order) ≡ length (now slots) ⌝ }
+    requires { ⌜ now held ≡ replicate (length (now slots)) 0 ⌝ }
     requires { ⌜ now kept ≡ replicate (length (now slots)) 0 ⌝ }
     ensures { λ r. ⌜ Ran (byRule (planRule room (now (slots .entry)) (now (values .entry)))) [] (now (slots .entry)) (now (values .entry)) (lists (now (fates .entry)) (now (whens .entry)) (now (bys .entry))) (lists (now (fates .exit)) (now (whens .exit)) (now (bys .exit))) r ⌝ }
 {
     by_falling_value(values, order);
-    keep_in_turn(slots, room, order, kept);
+    keep_in_turn(slots, room, order, held, kept);
     run(slots, values, kept, fates, whens, bys)
 }
 
@@ -166,6 +168,7 @@ pub fn run_plan(
     ensures { λ r. ⌜ Ran (byRule (planRule room (now (slots .entry)) (now (values .entry)))) [] (now (slots .entry)) (now (values .entry)) (lists (now (fates .entry)) (now (whens .entry)) (now (bys .entry))) (lists (now (fates .exit)) (now (whens .exit)) (now (bys .exit))) r ⌝ }
 {
     let mut order = [0u16; Record::PACKETS];
+    let mut held = [0u16; Record::PACKETS];
     let mut kept = [0u8; Record::PACKETS];
     let n = slots.len();
     plan_on(
@@ -173,6 +176,7 @@ pub fn run_plan(
         values,
         room,
         &mut order[..n],
+        &mut held[..n],
         &mut kept[..n],
         fates,
         whens,

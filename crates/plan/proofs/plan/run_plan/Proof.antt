@@ -1,4 +1,4 @@
--- The lent parts are as long as the trace, and no packet is kept in them yet.
+-- The lent parts are as long as the trace, no packet is kept in them yet, and so none is held.
 use borrow.Author.Needs.{needs}
 use mathlib.Core.Path.{sym}
 use lib.ListN.{length}
@@ -16,19 +16,28 @@ slice-aggregate-plan-on c =
     let start = c .before .before .before .before .before .before in
     sym (length-take-le (length (start .args .slots .now)) _ (start .pre .few))
 
-array-borrow-prefix-kept : tie.Need-array-borrow-prefix-kept
-array-borrow-prefix-kept c = search needs
+array-borrow-prefix-held : tie.Need-array-borrow-prefix-held
+array-borrow-prefix-held c = search needs
 
 slice-aggregate-plan-on-2 : tie.Need-slice-aggregate-plan-on-2
 slice-aggregate-plan-on-2 c =
     let start = c .before .before .before .before .before .before .before in
     sym (length-take-le (length (start .args .slots .now)) _ (start .pre .few))
 
+array-borrow-prefix-kept : tie.Need-array-borrow-prefix-kept
+array-borrow-prefix-kept c = search needs
+
+slice-aggregate-plan-on-3 : tie.Need-slice-aggregate-plan-on-3
+slice-aggregate-plan-on-3 c =
+    let start = c .before .before .before .before .before .before .before .before in
+    sym (length-take-le (length (start .args .slots .now)) _ (start .pre .few))
+
 plan-on-requires : tie.Need-plan-on-requires
 plan-on-requires c κs =
-    let start = c .before .before .before .before .before .before .before .before .before .before in
+    let start = c .before .before .before .before .before .before .before .before .before .before .before in
     let n = length (start .args .slots .now) in
-    (start .pre, (length-take-le n _ (start .pre .few), first-zeros n (recordLimits .packets) (start .pre .few)))
+    let zeros = first-zeros n (recordLimits .packets) (start .pre .few) in
+    (start .pre, (length-take-le n _ (start .pre .few), (zeros, zeros)))
 
 same-length : tie.Need-same-length
 same-length c = search needs
@@ -48,8 +57,10 @@ run-plan-spec =
     (tie.spec
     array-borrow-prefix-order
     slice-aggregate-plan-on
-    array-borrow-prefix-kept
+    array-borrow-prefix-held
     slice-aggregate-plan-on-2
+    array-borrow-prefix-kept
+    slice-aggregate-plan-on-3
     plan-on-requires
     same-length
     same-length-2
