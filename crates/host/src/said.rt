@@ -1,23 +1,14 @@
 // What a call on a trace answers, as one number and a lent list of totals.
 ghost use mathlib.Core.Path.{_≡_};
 ghost use Prim.Native.Nat.{_+_, _*_, _<_, _^_};
-ghost use lib.ListN.{set};
-ghost use Rattle.model.specs.Totals.{noTotals};
 ghost use Rattle.model.specs.Answers.{ofRun, ofAudit};
 ghost use Rattle.host.specs.Said.{tallied, told, SaidOfAudit};
 use model::AuditAnswer;
 use model::RunAnswer;
 use model::Tally;
 use model::Totals;
-
-// The list with a number at a place; unchanged where it has no such place.
-fn put(list: &mut [u32], place: usize, number: u32)
-    ensures { λ _. ⌜ now (list .exit) ≡ set (now (list .entry)) place number ⌝ }
-{
-    if place < list.len() {
-        list[place] = number;
-    }
-}
+use steps::entry::put;
+use steps::totals::none;
 
 fn put_tally(list: &mut [u32], place: usize, tally: Tally)
     requires { ⌜ place < 12 ⌝ }
@@ -40,21 +31,6 @@ fn tell(list: &mut [u32], totals: Totals)
     put(list, 12, totals.most_held);
 }
 
-fn no_totals() -> Totals
-    ensures { λ r. ⌜ r ≡ noTotals ⌝ }
-{
-    let nothing = Tally { count: 0, value: 0 };
-    Totals {
-        arrived: nothing,
-        sent: nothing,
-        rejected: nothing,
-        pushed_out: nothing,
-        preempted: nothing,
-        flushed: nothing,
-        most_held: 0,
-    }
-}
-
 fn code(number: u32, place: u32) -> u64
     ensures { λ r. ⌜ r ≡ number * 2 ^ 32 + place ⌝ }
 {
@@ -70,7 +46,7 @@ pub fn say_run(answer: RunAnswer, totals: &mut [u32]) -> u64
             0
         }
         RunAnswer::Refused(refusal) => {
-            tell(totals, no_totals());
+            tell(totals, none());
             let cause = refusal.cause;
             code(cause.number(), refusal.place)
         }
@@ -86,13 +62,13 @@ pub fn say_audit(answer: AuditAnswer, totals: &mut [u32]) -> u64
             0
         }
         AuditAnswer::Faulty(first) => {
-            tell(totals, no_totals());
+            tell(totals, none());
             let fault = first.fault;
             let packet = first.packet;
             code(fault.number(), packet.0)
         }
         AuditAnswer::Refused(refusal) => {
-            tell(totals, no_totals());
+            tell(totals, none());
             let cause = refusal.cause;
             code(cause.number(), refusal.place)
         }

@@ -71,7 +71,8 @@ fn tally_of(values: &[u32], fates: &[u32], fate: Fate) -> Tally
     Tally { count, value }
 }
 
-fn none() -> Totals
+// No totals: zero throughout.
+pub fn none() -> Totals
     ensures { λ r. ⌜ r ≡ noTotals ⌝ }
 {
     let nothing = Tally { count: 0, value: 0 };

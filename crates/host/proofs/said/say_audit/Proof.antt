@@ -13,8 +13,8 @@ tell-requires c κs = search needs
 enum-known-answer-2 : tie.Need-enum-known-answer-2
 enum-known-answer-2 c = search needs
 
-no-totals-requires : tie.Need-no-totals-requires
-no-totals-requires c κs = search needs
+none-requires : tie.Need-none-requires
+none-requires c κs = search needs
 
 tell-requires-2 : tie.Need-tell-requires-2
 tell-requires-2 c κs = search needs
@@ -28,8 +28,8 @@ code-requires c κs = search needs
 enum-known-answer-3 : tie.Need-enum-known-answer-3
 enum-known-answer-3 c = search needs
 
-no-totals-requires-2 : tie.Need-no-totals-requires-2
-no-totals-requires-2 c κs = search needs
+none-requires-2 : tie.Need-none-requires-2
+none-requires-2 c κs = search needs
 
 tell-requires-3 : tie.Need-tell-requires-3
 tell-requires-3 c κs = search needs
@@ -50,13 +50,13 @@ same-length-2 : tie.Need-same-length-2
 same-length-2 c = search needs
 
 returns-2 : tie.Need-returns-2
-returns-2 c = faulty _ (c .before .before .before .before .before .before .before .before .before .answer2 .given .1) (c .before .before .before .before .before .before .no-totals .ensures) (c .before .before .before .before .before .tell2 .ensures) (c .before .number .ensures) (c .code .ensures)
+returns-2 c = faulty _ (c .before .before .before .before .before .before .before .before .before .answer2 .given .1) (c .before .before .before .before .before .before .none .ensures) (c .before .before .before .before .before .tell2 .ensures) (c .before .number .ensures) (c .code .ensures)
 
 same-length-3 : tie.Need-same-length-3
 same-length-3 c = search needs
 
 returns-3 : tie.Need-returns-3
-returns-3 c = audit-refused _ (c .before .before .before .before .before .before .before .before .answer3 .given .1) (c .before .before .before .before .before .no-totals2 .ensures) (c .before .before .before .before .tell3 .ensures) (c .before .number2 .ensures) (c .code2 .ensures)
+returns-3 c = audit-refused _ (c .before .before .before .before .before .before .before .before .answer3 .given .1) (c .before .before .before .before .before .none2 .ensures) (c .before .before .before .before .tell3 .ensures) (c .before .number2 .ensures) (c .code2 .ensures)
 
 pub say-audit-spec : {M : Type 1} → statement M
 say-audit-spec =
@@ -65,12 +65,12 @@ say-audit-spec =
     enum-known-answer
     tell-requires
     enum-known-answer-2
-    no-totals-requires
+    none-requires
     tell-requires-2
     number-requires
     code-requires
     enum-known-answer-3
-    no-totals-requires-2
+    none-requires-2
     tell-requires-3
     number-requires-2
     code-requires-2

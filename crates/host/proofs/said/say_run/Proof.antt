@@ -13,8 +13,8 @@ tell-requires c κs = search needs
 enum-known-answer-2 : tie.Need-enum-known-answer-2
 enum-known-answer-2 c = search needs
 
-no-totals-requires : tie.Need-no-totals-requires
-no-totals-requires c κs = search needs
+none-requires : tie.Need-none-requires
+none-requires c κs = search needs
 
 tell-requires-2 : tie.Need-tell-requires-2
 tell-requires-2 c κs = search needs
@@ -35,7 +35,7 @@ same-length-2 : tie.Need-same-length-2
 same-length-2 c = search needs
 
 returns-2 : tie.Need-returns-2
-returns-2 c = run-refused _ (c .before .before .before .before .before .before .before .before .answer2 .given .1) (c .before .before .before .before .before .no-totals .ensures) (c .before .before .before .before .tell2 .ensures) (c .before .number .ensures) (c .code .ensures)
+returns-2 c = run-refused _ (c .before .before .before .before .before .before .before .before .answer2 .given .1) (c .before .before .before .before .before .none .ensures) (c .before .before .before .before .tell2 .ensures) (c .before .number .ensures) (c .code .ensures)
 
 pub say-run-spec : {M : Type 1} → statement M
 say-run-spec =
@@ -44,7 +44,7 @@ say-run-spec =
     enum-known-answer
     tell-requires
     enum-known-answer-2
-    no-totals-requires
+    none-requires
     tell-requires-2
     number-requires
     code-requires
