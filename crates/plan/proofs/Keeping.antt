@@ -1,7 +1,7 @@
 -- Why what is kept is the plan's. Counts of what is held after each arrival, each by the one before it, are those of `fitsFrom`. One packet more adds one to
 -- each from its place on, up to the first pause that is longer than what was held: there all is sent, with it and without it. So the counts are kept right,
 -- and each packet of the order is tried as `keepInTurn` does.
-use Prim.Native.Nat.{ℕ, zero, suc, min, _+_, _-_, _≤_, _<_}
+use Prim.Native.Nat.{ℕ, zero, suc, _+_, _-_, _≤_, _<_}
 use mathlib.Core.Path.{_≡_, refl, sym, ap, _∙_}
 use mathlib.Core.Bool.{Bool, true, false, cond, _&&_}
 use mathlib.Core.List.{List, [], _∷_}
@@ -9,13 +9,14 @@ use native.Mathlib.Numerals.{add-one}
 use native.Mathlib.Omega.{arith}
 use lib.ListN.{length, getD, set, drop, length-set, replicate, length-replicate, getD-replicate, drop-of-length-le}
 use lib.Seq.{drop-cons, set-getD, getD-set-same, getD-set-other}
-use lib.Dec.{leb, ltb}
-use borrow.Author.Tests.{le-leb, lt-leb, ltb-true, ltb-false}
+use lib.Dec.{leb}
+use borrow.Author.Tests.{le-leb, lt-leb}
 use Rattle.model.specs.Packets.{arrivals}
 use Rattle.model.specs.Policies.Plan.{fitsFrom, fits, keepInTurn}
 use Rattle.laws.proofs.Cases.{eqb-cases}
 use Rattle.steps.specs.Places.{packetsAt}
-use Rattle.plan.specs.Keep.{Keepable, Fitting, TakenInTurn, HeldAs, Triable, Staying, Spanning, NoRoom, Reach, Raised, pause, within}
+use Rattle.plan.specs.Keep.{Keepable, Fitting, TakenInTurn, HeldAs, Staying, Spanning, Reach, Raised, pause, within}
+use Rattle.plan.proofs.Cases.{below}
 use Rattle.steps.proofs.Places.{arrivals-at, arrivals-length}
 
 -- what the pass says of the packets from i on, with `held` held in slot `last`, it says of all
@@ -116,14 +117,6 @@ held-none slots room kept held none zeros =
   where
     none-at : (k : ℕ) → k < length slots → _≡_ {A = ℕ} (getD (replicate (length slots) 0) k 0) 0
     none-at k b = getD-replicate (length slots) k 0 0 b
-
--- one number is below another or not
-below : (m n : ℕ) (G : Type 0) → (m < n → G) → (n ≤ m → G) → G
-below m n G less not = go (ltb m n) refl
-  where
-    go : (t : Bool) → ltb m n ≡ t → G
-    go true e = less (ltb-true m n e)
-    go false e = not (ltb-false m n e)
 
 -- a packet is tried
 module _ (slots : List ℕ) (room : ℕ) (kept : List ℕ) (place : ℕ) where

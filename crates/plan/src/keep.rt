@@ -1,9 +1,8 @@
 // The packets that the offline plan keeps: 1 for each that is kept, 0 for every other. Beside it stands how many kept packets are held just after each arrival,
 // so that a packet is tried on the arrivals that would find it still held, and on no others.
-ghost use mathlib.Core.Path.{_≡_};
 ghost use mathlib.Core.List.{[], _∷_};
 ghost use Prim.Native.Nat.{_<_};
-ghost use lib.ListN.{length, getD};
+ghost use lib.ListN.{length};
 ghost use Rattle.plan.specs.Order.{Inside};
 ghost use Rattle.plan.specs.Keep.{Triable, Reach, Raisable, Raised, Keepable, HeldAs, TakenInTurn};
 

@@ -1,9 +1,8 @@
 -- The counts from the place up to i are one more.
 use borrow.Author.Needs.{needs}
 use Prim.Native.Nat.{_-_, _≤_}
-use mathlib.Core.Path.{_≡_, refl}
+use mathlib.Core.Path.{_≡_}
 use native.Mathlib.Omega.{arith}
-use lib.ListN.{length}
 use Rattle.plan.specs.Keep.{Raised}
 use Rattle.plan.proofs.Keeping.{raised-start, raised-turn, raised-low}
 use Rattle.plan.proofs.keep.raise.Statement.{statement}
