@@ -239,15 +239,7 @@ fn spoil(source: &mut Source, case: &mut Case) {
         5 => case.lengths.fates = other_length(source, case.n),
         6 => case.lengths.whens = other_length(source, case.n),
         7 => case.lengths.bys = other_length(source, case.n),
-        8 => case.num = 0,
-        9 => case.den = 0,
-        10 => case.num = case.den,
-        11 => case.num = 65_536,
-        12 => {
-            case.num = 65_537;
-            case.den = 65_536;
-        }
-        13 => std::mem::swap(&mut case.num, &mut case.den),
+        way @ 8..=13 => spoil_beta(way - 8, &mut case.num, &mut case.den),
         14 => match source.draw(4) {
             0 => case.lo = case.hi,
             1 => case.lo = 0,
@@ -284,6 +276,18 @@ fn spoil(source: &mut Source, case: &mut Case) {
                 };
             }
         }
+    }
+}
+
+// The six ways in which a beta is spoilt.
+fn spoil_beta(way: u64, num: &mut u64, den: &mut u64) {
+    match way {
+        0 => *num = 0,
+        1 => *den = 0,
+        2 => *num = *den,
+        3 => *num = 65_536,
+        4 => (*num, *den) = (65_537, 65_536),
+        _ => std::mem::swap(num, den),
     }
 }
 
@@ -600,15 +604,7 @@ fn spoil_port(source: &mut Source, port: &mut Port) {
                 port.held -= 1;
             }
         }
-        8 => port.num = 0,
-        9 => port.den = 0,
-        10 => port.num = port.den,
-        11 => port.num = 65_536,
-        12 => {
-            port.num = 65_537;
-            port.den = 65_536;
-        }
-        13 => std::mem::swap(&mut port.num, &mut port.den),
+        way @ 8..=13 => spoil_beta(way - 8, &mut port.num, &mut port.den),
         kind @ 14..=16 => {
             if u > 0 {
                 let place = source.draw(u) as usize;

@@ -2,87 +2,28 @@
 
 use crate::kinds::*;
 
+// A call on a trace and a record: the trace, the room, what is the call's own, the record's lists and the totals.
+macro_rules! door {
+    ($($name:ident($($own:ident: $kind:ty),*) $list:ty;)*) => {
+        extern "C" {
+            $(fn $name(
+                slots: *const u32, slots_len: usize, values: *const u32, values_len: usize, room: usize, $($own: $kind,)*
+                fates: $list, fates_len: usize, whens: $list, whens_len: usize, bys: $list, bys_len: usize,
+                totals: *mut u32, totals_len: usize,
+            ) -> u64;)*
+        }
+    };
+}
+
+door! {
+    host_greedy() *mut u32;
+    host_pg(num: u32, den: u32) *mut u32;
+    host_mf(lo: u32, hi: u32, r: usize) *mut u32;
+    host_plan() *mut u32;
+    host_audit() *const u32;
+}
+
 extern "C" {
-    fn host_greedy(
-        slots: *const u32,
-        slots_len: usize,
-        values: *const u32,
-        values_len: usize,
-        room: usize,
-        fates: *mut u32,
-        fates_len: usize,
-        whens: *mut u32,
-        whens_len: usize,
-        bys: *mut u32,
-        bys_len: usize,
-        totals: *mut u32,
-        totals_len: usize,
-    ) -> u64;
-    fn host_pg(
-        slots: *const u32,
-        slots_len: usize,
-        values: *const u32,
-        values_len: usize,
-        room: usize,
-        num: u32,
-        den: u32,
-        fates: *mut u32,
-        fates_len: usize,
-        whens: *mut u32,
-        whens_len: usize,
-        bys: *mut u32,
-        bys_len: usize,
-        totals: *mut u32,
-        totals_len: usize,
-    ) -> u64;
-    fn host_mf(
-        slots: *const u32,
-        slots_len: usize,
-        values: *const u32,
-        values_len: usize,
-        room: usize,
-        lo: u32,
-        hi: u32,
-        r: usize,
-        fates: *mut u32,
-        fates_len: usize,
-        whens: *mut u32,
-        whens_len: usize,
-        bys: *mut u32,
-        bys_len: usize,
-        totals: *mut u32,
-        totals_len: usize,
-    ) -> u64;
-    fn host_plan(
-        slots: *const u32,
-        slots_len: usize,
-        values: *const u32,
-        values_len: usize,
-        room: usize,
-        fates: *mut u32,
-        fates_len: usize,
-        whens: *mut u32,
-        whens_len: usize,
-        bys: *mut u32,
-        bys_len: usize,
-        totals: *mut u32,
-        totals_len: usize,
-    ) -> u64;
-    fn host_audit(
-        slots: *const u32,
-        slots_len: usize,
-        values: *const u32,
-        values_len: usize,
-        room: usize,
-        fates: *const u32,
-        fates_len: usize,
-        whens: *const u32,
-        whens_len: usize,
-        bys: *const u32,
-        bys_len: usize,
-        totals: *mut u32,
-        totals_len: usize,
-    ) -> u64;
     fn host_port(events: *const u32, events_len: usize, room: usize, num: u32, den: u32) -> u64;
 }
 
@@ -104,15 +45,15 @@ fn answer(code: u64, t: [u32; 13]) -> Answer {
     })
 }
 
-macro_rules! run {
-    ($call:ident, $trace:expr, $record:expr, $room:expr $(, $own:expr)*) => {{
+macro_rules! call {
+    ($call:ident, $trace:expr, $record:expr, $lent:ident, $room:expr $(, $own:expr)*) => {{
         let mut totals = [0; 13];
-        // SAFETY: every pointer and length is that of one living list, and the lists that are written are lent mutably.
+        // SAFETY: every pointer and length is that of one living list, and the lists that are written are lent mutably; the audit writes the totals alone.
         let code = unsafe {
             $call(
                 $trace.slots.as_ptr(), $trace.slots.len(), $trace.values.as_ptr(), $trace.values.len(), $room, $($own,)*
-                $record.fates.as_mut_ptr(), $record.fates.len(), $record.whens.as_mut_ptr(), $record.whens.len(),
-                $record.bys.as_mut_ptr(), $record.bys.len(), totals.as_mut_ptr(), totals.len(),
+                $record.fates.$lent(), $record.fates.len(), $record.whens.$lent(), $record.whens.len(),
+                $record.bys.$lent(), $record.bys.len(), totals.as_mut_ptr(), totals.len(),
             )
         };
         answer(code, totals)
@@ -120,11 +61,11 @@ macro_rules! run {
 }
 
 pub fn greedy(trace: &Trace, room: usize, record: &mut Record) -> Answer {
-    run!(host_greedy, trace, record, room)
+    call!(host_greedy, trace, record, as_mut_ptr, room)
 }
 
 pub fn pg(trace: &Trace, room: usize, beta: Beta, record: &mut Record) -> Answer {
-    run!(host_pg, trace, record, room, beta.num, beta.den)
+    call!(host_pg, trace, record, as_mut_ptr, room, beta.num, beta.den)
 }
 
 pub fn mf(
@@ -133,34 +74,15 @@ pub fn mf(
     (lo, hi, r): (u32, u32, usize),
     record: &mut Record,
 ) -> Answer {
-    run!(host_mf, trace, record, room, lo, hi, r)
+    call!(host_mf, trace, record, as_mut_ptr, room, lo, hi, r)
 }
 
 pub fn plan(trace: &Trace, room: usize, record: &mut Record) -> Answer {
-    run!(host_plan, trace, record, room)
+    call!(host_plan, trace, record, as_mut_ptr, room)
 }
 
 pub fn audit(trace: &Trace, room: usize, record: &Record) -> Answer {
-    let mut totals = [0; 13];
-    // SAFETY: as above; the audit writes the totals alone.
-    let code = unsafe {
-        host_audit(
-            trace.slots.as_ptr(),
-            trace.slots.len(),
-            trace.values.as_ptr(),
-            trace.values.len(),
-            room,
-            record.fates.as_ptr(),
-            record.fates.len(),
-            record.whens.as_ptr(),
-            record.whens.len(),
-            record.bys.as_ptr(),
-            record.bys.len(),
-            totals.as_mut_ptr(),
-            totals.len(),
-        )
-    };
-    answer(code, totals)
+    call!(host_audit, trace, record, as_ptr, room)
 }
 
 pub fn feed(events: &[u32], room: usize, beta: Beta) -> u64 {
