@@ -20,11 +20,10 @@ use Rattle.model.specs.Totals.{totalsOf, mostHeldFrom}
 use Rattle.model.specs.Refusals.{plainRefusal, valueOk}
 use Rattle.model.specs.Answers.{causeNumber, faultNumber, ofAudit}
 use Rattle.model.specs.Calls.{auditCall}
-use Rattle.trace.specs.Tested.{Tested}
-use Rattle.trace.proofs.Accepted.{within-to}
-use Rattle.steps.specs.Totals.{Countable, totalsBy}
-use Rattle.steps.proofs.Totalling.{rows-totals}
-use Rattle.steps.proofs.Answering.{cause-refuses}
+use Rattle.laws.proofs.Accepted.{Accepted}
+use Rattle.totals.specs.Totals.{Countable, totalsBy}
+use Rattle.totals.proofs.Totalling.{rows-totals}
+use Rattle.trace.proofs.Laws.{cause-refuses}
 use Rattle.audit.proofs.Kept.{bufferOf}
 
 fault-some : (f : Fault) → eqb (faultNumber f) 0 ≡ false
@@ -35,19 +34,19 @@ fault-some faults.NotLater = refl
 fault-some faults.OverRoom = refl
 
 -- the lists of a tested trace can be counted
-pub countable : (slots values : List ℕ) (room : ℕ) (lists : Lists) → Tested valueOk slots values room lists → Countable values (lists .fates)
+pub countable : (slots values : List ℕ) (room : ℕ) (lists : Lists) → Accepted valueOk slots values room lists → Countable values (lists .fates)
 countable slots values room lists t =
     record {
-      same = omega (arith, t .values-length, t .fates-length);
-      few = omega (arith, t .fates-length, t .few);
-      values-fit = λ k h. within-to _ _ _ (t .packets .taken k (omega (arith, t .values-length)));
+      same = omega (arith, t .lengths, t .sized .fates);
+      few = omega (arith, t .sized .fates, t .few);
+      values-fit = λ k h. t .packets .taken k (omega (arith, t .lengths));
     }
 
 -- the totals of its rows are those of its values and fates
-pub totals-are : (slots values : List ℕ) (room : ℕ) (lists : Lists) (most : ℕ) → Tested valueOk slots values room lists
+pub totals-are : (slots values : List ℕ) (room : ℕ) (lists : Lists) (most : ℕ) → Accepted valueOk slots values room lists
     → mostHeldFrom [] (rows (arrivals slots values) lists) ≡ most → totalsOf (rows (arrivals slots values) lists) ≡ totalsBy values (lists .fates) most
 totals-are slots values room lists most t m =
-    rows-totals slots values lists (t .values-length) (record { fates = t .fates-length; whens = t .whens-length; bys = t .bys-length })
+    rows-totals slots values lists (t .lengths) (t .sized)
     ∙ ap (totalsBy values (lists .fates)) m
 
 module _ (slots values : List ℕ) (room : ℕ) (lists : Lists) where

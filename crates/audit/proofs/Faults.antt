@@ -14,9 +14,9 @@ use Rattle.model.specs.Limits.{within}
 use Rattle.model.specs.declared.Slot.{Slot}
 use Rattle.model.specs.Record.{Row, fateNumber}
 use Rattle.model.specs.Rules.{Verdict, Buffer, clear, hasFate, fateOutside, byWrong, whenWrong, notAfterLast, notLater, overRoom, orElse, verdictIf, faultAt}
-use Rattle.trace.proofs.Accepted.{both}
-use Rattle.audit.specs.Sweep.{lastOf, notAfter, entryFault}
-use Rattle.audit.proofs.Fates.{when-test}
+use Rattle.laws.proofs.FirstFault.{orElse-zero, verdictIf-zero}
+use Rattle.faults.specs.Faults.{lastOf, notAfter, entryFault}
+use Rattle.faults.proofs.Fates.{when-test}
 
 -- what `last` says of the older rows
 abbrev pub LastSent : ℕ → List Row → Type 0
@@ -79,8 +79,4 @@ inside Flushed r e = rw e
 
 -- where nothing is found the first test failed
 pub first-clear : (test : Bool) (n place : ℕ) (w : Verdict) → orElse (verdictIf test (suc n) place) w ≡ clear → test ≡ false
-first-clear test n place w e = go test (both (verdictIf test (suc n) place) w (ap (λ (v : Verdict). v .number) e) .one)
-  where
-    go : (t : Bool) → verdictIf t (suc n) place .number ≡ 0 → t ≡ false
-    go true q = absurd (omega arith)
-    go false q = refl
+first-clear test n place w e = verdictIf-zero test n place (orElse-zero (verdictIf test (suc n) place) w (ap (λ (v : Verdict). v .number) e) .0)

@@ -12,13 +12,14 @@ use Rattle.model.specs.declared.Fate.{Fate}
 use Rattle.model.specs.declared.Fate.the-variants.{Sent, Rejected, PushedOut, Preempted, Flushed}
 use Rattle.model.specs.Record.{Row, fateNumber}
 use Rattle.model.specs.Rules.{byWrong, isHeldAt}
-use Rattle.trace.specs.Tested.{Rising}
+use Rattle.laws.proofs.Accepted.{NeverDown}
 use Rattle.audit.specs.Sweep.{upTo, leaveOf}
-use Rattle.audit.proofs.Fates.{by-test, by-range, held-test, leave-test}
+use Rattle.audit.proofs.Fates.{held-test, leave-test}
+use Rattle.faults.proofs.Fates.{by-test, by-range}
 use Rattle.audit.proofs.UpTo.{in-front, past-front, front-le}
 
 -- not after `when` is in the front
-front-test : (slots : List ℕ) (when k : ℕ) → Rising slots → k < length slots
+front-test : (slots : List ℕ) (when k : ℕ) → NeverDown slots → k < length slots
     → leb (getD slots k 0) when ≡ leb (suc k) (upTo slots when)
 front-test slots when k rising h = go (leb (suc k) (upTo slots when)) refl
   where
@@ -36,7 +37,7 @@ by-first by k = go (leb (suc k) (by - 1)) refl
     go true e = let l = leb-true (suc k) (by - 1) e in lt-ltb (suc k) by (omega arith)
     go false e = let l = leb-false (suc k) (by - 1) e in le-ltb (suc k) by (omega arith)
 
-pub held-until : (f : Fate) (slots : List ℕ) (at r : Row) (k : ℕ) → r .fate ≡ fateNumber f → Rising slots → k < length slots
+pub held-until : (f : Fate) (slots : List ℕ) (at r : Row) (k : ℕ) → r .fate ≡ fateNumber f → NeverDown slots → k < length slots
     → at .number .0 ≡ suc k → at .slot .0 ≡ getD slots k 0 → isHeldAt at r ≡ leb (suc k) (leaveOf slots r)
 held-until Sent slots at r k e rising h n s =
     held-test Sent at r e ∙ rw (leave-test Sent slots r e, s) (front-test slots (r .when .0) k rising h)

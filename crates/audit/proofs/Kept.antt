@@ -22,9 +22,10 @@ use Rattle.model.specs.Record.{Row, Lists, rowsOf, fateNumber}
 use Rattle.model.specs.Rules.{Verdict, Buffer, clear, countOf, isHeldAt, heldAfter, notAfterLast, byWrong, overRoom, orElse, verdictIf, faultAt, fateOutside, firstFaultFrom}
 use Rattle.model.specs.Totals.{mostHeldFrom}
 use Rattle.model.specs.Refusals.{valueOk}
-use Rattle.trace.specs.Tested.{Tested}
+use Rattle.laws.proofs.Accepted.{Accepted}
 use Rattle.audit.specs.Rows.{rowAt}
-use Rattle.audit.specs.Sweep.{leaveOf, lastOf, entryFault}
+use Rattle.audit.specs.Sweep.{leaveOf}
+use Rattle.faults.specs.Faults.{lastOf, entryFault}
 use Rattle.audit.proofs.Counts.{leavesFrom, leavesAt, count-le, split}
 use Rattle.audit.proofs.Held.{held-until, leave-le}
 use Rattle.audit.proofs.Faults.{LastSent, last-more, inside, first-clear, fault-here, fault-outside}
@@ -45,14 +46,14 @@ older-length slots values lists zero = refl
 older-length slots values lists (suc i) = ap suc (older-length slots values lists i)
 
 -- the row at place i comes first
-pub rest-cons : (slots values : List ℕ) (room : ℕ) (lists : Lists) → Tested valueOk slots values room lists → (i : ℕ) → i < length slots
+pub rest-cons : (slots values : List ℕ) (room : ℕ) (lists : Lists) → Accepted valueOk slots values room lists → (i : ℕ) → i < length slots
     → rest slots values lists i ≡ rowAt slots values lists i ∷ rest slots values lists (suc i)
 unfolding arrivalsFrom rowsOf
 rest-cons slots values room lists t i h =
-    let v : i < length values = omega (arith, t .values-length) in
-    let f : i < length (lists .fates) = omega (arith, t .fates-length) in
-    let w : i < length (lists .whens) = omega (arith, t .whens-length) in
-    let b : i < length (lists .bys) = omega (arith, t .bys-length) in
+    let v : i < length values = omega (arith, t .lengths) in
+    let f : i < length (lists .fates) = omega (arith, t .sized .fates) in
+    let w : i < length (lists .whens) = omega (arith, t .sized .whens) in
+    let b : i < length (lists .bys) = omega (arith, t .sized .bys) in
     rw
     (drop-cons slots i 0, drop-cons values i 0, drop-cons (lists .fates) i 0, drop-cons (lists .whens) i 0, drop-cons (lists .bys) i 0)
 
@@ -100,7 +101,7 @@ kept-start slots values room lists leaving e few =
     }
 
 -- the first fault from this packet on
-whole-is : (slots values : List ℕ) (room : ℕ) (lists : Lists) (i held most last : ℕ) (leaving : List ℕ) → Tested valueOk slots values room lists
+whole-is : (slots values : List ℕ) (room : ℕ) (lists : Lists) (i held most last : ℕ) (leaving : List ℕ) → Accepted valueOk slots values room lists
     → Kept slots values room lists i held most last leaving → i < length slots
     → orElse (faultAt (bufferOf slots room) (older slots values lists i) (rowAt slots values lists i))
     (firstFaultFrom (bufferOf slots room) (older slots values lists (suc i)) (rest slots values lists (suc i)))
@@ -121,7 +122,7 @@ stops faults.NotLater place w = refl
 stops faults.OverRoom place w = refl
 
 -- 11 ends the sweep
-pub turn-outside : (slots values : List ℕ) (room : ℕ) (lists : Lists) (i held most last : ℕ) (leaving : List ℕ) → Tested valueOk slots values room lists
+pub turn-outside : (slots values : List ℕ) (room : ℕ) (lists : Lists) (i held most last : ℕ) (leaving : List ℕ) → Accepted valueOk slots values room lists
     → Kept slots values room lists i held most last leaving → i < length slots → fateOutside (rowAt slots values lists i) ≡ true
     → firstFaultFrom (bufferOf slots room) [] (rest slots values lists 0) ≡ record { number = 11; place = i + 1 }
 turn-outside slots values room lists i held most last leaving t kept h e =
@@ -131,7 +132,7 @@ turn-outside slots values room lists i held most last leaving t kept h e =
 
 -- one turn, at the packet at place i, whose fate is f
 module _ (slots values : List ℕ) (room : ℕ) (lists : Lists) (i held most : ℕ) (last : Slot) (leaving : List ℕ)
-    (t : Tested valueOk slots values room lists) (kept : Kept slots values room lists i held most (last .0) leaving) (h : i < length slots) (f : Fate)
+    (t : Accepted valueOk slots values room lists) (kept : Kept slots values room lists i held most (last .0) leaving) (h : i < length slots) (f : Fate)
     (fate : rowAt slots values lists i .fate ≡ fateNumber f) where
   abbrev this : Row
   this = rowAt slots values lists i
@@ -162,7 +163,7 @@ module _ (slots values : List ℕ) (room : ℕ) (lists : Lists) (i held most : �
   pub held-after : heldAfter passed this ≡ heldThen
   unfolding countOf
   held-after =
-      rw (held-until f slots this this i fate (t .packets .rising) h refl refl, kept .held-at i (le-refl i) h)
+      rw (held-until f slots this this i fate (t .packets .never-down) h refl refl, kept .held-at i (le-refl i) h)
       (omega (arith, later-held, kept .held-now, kept .leaving-at i (le-refl i) (omega arith)))
 
   abbrev whole : Verdict
@@ -237,7 +238,7 @@ module _ (slots values : List ℕ) (room : ℕ) (lists : Lists) (i held most : �
         → countOf (isHeldAt (rowAt slots values lists k)) (this ∷ passed) ≡ countOf (leavesFrom slots (suc k)) (this ∷ passed)
     unfolding countOf
     held-at-then k l l′ =
-        rw (held-until f slots (rowAt slots values lists k) this k fate (t .packets .rising) l′ refl refl, kept .held-at k (omega arith) l′)
+        rw (held-until f slots (rowAt slots values lists k) this k fate (t .packets .never-down) l′ refl refl, kept .held-at k (omega arith) l′)
 
     most-then : max (max most heldThen) (mostHeldFrom (this ∷ passed) (rest slots values lists (suc i))) ≡ mostHeldFrom [] (rest slots values lists 0)
     unfolding mostHeldFrom

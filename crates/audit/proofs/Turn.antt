@@ -13,10 +13,11 @@ use Rattle.model.specs.Record.{Row, Lists, fateNumber}
 use Rattle.model.specs.Rules.{Verdict, clear, byWrong, firstFaultFrom}
 use Rattle.model.specs.Refusals.{valueOk}
 use Rattle.model.specs.Answers.{faultNumber}
-use Rattle.trace.specs.Tested.{Tested}
+use Rattle.laws.proofs.Accepted.{Accepted}
 use Rattle.audit.specs.Rows.{rowAt}
-use Rattle.audit.specs.Sweep.{leaveOf, lastOf, entryFault}
-use Rattle.steps.proofs.Counting.{only-le}
+use Rattle.audit.specs.Sweep.{leaveOf}
+use Rattle.faults.specs.Faults.{lastOf, entryFault}
+use Rattle.totals.proofs.Counting.{only-le}
 use Rattle.audit.proofs.Faults.{first-clear}
 use Rattle.audit.proofs.Held.{leave-le}
 use Rattle.audit.proofs.Kept as laws
@@ -24,7 +25,7 @@ use Rattle.audit.proofs.Kept.{Kept, bufferOf, rest}
 
 -- where the packet at place i, of fate f, has been read
 pub record Turn (slots values : List ℕ) (room : ℕ) (lists : Lists) (i held most : ℕ) (last : Slot) (leaving : List ℕ) (r : Row) (f : Fate) : Type 0 where
-  pub tested : Tested valueOk slots values room lists
+  pub tested : Accepted valueOk slots values room lists
   pub kept : Kept slots values room lists i held most (last .0) leaving
   pub here : i < length slots
   pub row-is : r ≡ rowAt slots values lists i

@@ -8,7 +8,7 @@ use mathlib.Core.List.{List, [], _∷_}
 use lib.ListN.{length, getD}
 use lib.Dec.{leb}
 use borrow.Author.Tests.{leb-true, leb-false}
-use Rattle.trace.specs.Tested.{Rising}
+use Rattle.laws.proofs.Accepted.{NeverDown}
 use Rattle.audit.specs.Sweep.{upTo}
 
 -- every slot of the front is not after `when`
@@ -24,7 +24,7 @@ in-front (s ∷ slots) when k h = go (in-front slots when) (leb s when) refl k h
     go rest false e k h = absurd (omega arith)
 
 -- the slots after the front are after `when`
-pub past-front : (slots : List ℕ) (when : ℕ) → Rising slots → (k : ℕ) → upTo slots when ≤ k → k < length slots → when < getD slots k 0
+pub past-front : (slots : List ℕ) (when : ℕ) → NeverDown slots → (k : ℕ) → upTo slots when ≤ k → k < length slots → when < getD slots k 0
 unfolding upTo
 past-front [] when rising k h l = absurd (omega arith)
 past-front (s ∷ slots) when rising k h l =
@@ -53,7 +53,7 @@ pub record Bracket (slots : List ℕ) (when low high : ℕ) : Type 0 where
   pub above : (k : ℕ) → high ≤ k → k < length slots → when < getD slots k 0
 
 -- a slot that is not after `when` is in the front
-pub reaches : (slots : List ℕ) (when near : ℕ) → Rising slots → near < length slots → getD slots near 0 ≤ when → near + 1 ≤ upTo slots when
+pub reaches : (slots : List ℕ) (when near : ℕ) → NeverDown slots → near < length slots → getD slots near 0 ≤ when → near + 1 ≤ upTo slots when
 reaches slots when near rising inside h = go (leb (upTo slots when) near) refl
   where
     go : (t : Bool) → leb (upTo slots when) near ≡ t → near + 1 ≤ upTo slots when
@@ -71,7 +71,7 @@ bracket-start slots when low h =
     }
 
 -- a slot between the two settles all on one side of it
-module _ (slots : List ℕ) (when low high : ℕ) (rising : Rising slots) (b : Bracket slots when low high) (m : ℕ) (lm : low ≤ m) (mh : m < high) where
+module _ (slots : List ℕ) (when low high : ℕ) (rising : NeverDown slots) (b : Bracket slots when low high) (m : ℕ) (lm : low ≤ m) (mh : m < high) where
   pub bracket-up : getD slots m 0 ≤ when → Bracket slots when (m + 1) high
   bracket-up h =
       record {
@@ -91,7 +91,7 @@ module _ (slots : List ℕ) (when low high : ℕ) (rising : Rising slots) (b : B
       }
 
 -- where they meet is the end
-pub met : (slots : List ℕ) (when low high : ℕ) → Rising slots → Bracket slots when low high → high ≤ low → low ≡ upTo slots when
+pub met : (slots : List ℕ) (when low high : ℕ) → NeverDown slots → Bracket slots when low high → high ≤ low → low ≡ upTo slots when
 met slots when low high rising b h = go (leb low (upTo slots when)) refl (leb (upTo slots when) low) refl
   where
     go : (s : Bool) → leb low (upTo slots when) ≡ s → (t : Bool) → leb (upTo slots when) low ≡ t → low ≡ upTo slots when

@@ -7,9 +7,9 @@ use lib.ListN.{length, getD}
 use Rattle.model.specs.Limits.{within, recordLimits}
 use Rattle.model.specs.Rules.{fateOutside}
 use Rattle.model.specs.Record.{Row, Lists, fateNumber}
+use Rattle.faults.specs.Faults.{rowOf}
 use Rattle.audit.specs.declared.Named.{Named}
 use Rattle.audit.specs.declared.Named.the-variants.{Fate, Outside}
-use Rattle.audit.specs.declared.Entry.{Entry}
 use Rattle.audit.specs.declared.Read.{Read}
 use Rattle.audit.specs.declared.Read.the-variants as read
 
@@ -17,11 +17,6 @@ use Rattle.audit.specs.declared.Read.the-variants as read
 abbrev pub Names : ℕ → Named → Type 0
 Names n (Fate f) = n ≡ fateNumber f
 Names n Outside = within 1 5 n ≡ false
-
--- an entry, its fate as a number
-abbrev pub rowOf : Entry → Row
-rowOf e =
-    record { number = e .number; slot = e .slot; value = e .value; fate = fateNumber (e .fate); when = e .when; by = e .by }
 
 -- what was read is the row, or its fate is outside 1 to 5
 abbrev pub Reads : Row → Read → Type 0

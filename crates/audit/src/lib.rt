@@ -1,20 +1,24 @@
 // The audit of anyone's record: the first fault against the buffer's rules, or the totals. What it answers stands in crate model.
 ghost use mathlib.Core.Path.{_≡_};
 ghost use mathlib.Core.Bool.{false};
-ghost use Prim.Native.Nat.{suc, _+_, _≤_, _<_, min, max};
+ghost use Prim.Native.Nat.{_+_, _≤_, _<_, min, max};
 ghost use lib.ListN.{length};
-ghost use Rattle.model.specs.Packets.{slotOf, arrivals};
+ghost use Rattle.model.specs.Packets.{arrivals};
 ghost use Rattle.model.specs.Record.{rows};
 ghost use Rattle.model.specs.Refusals.{valueOk};
 ghost use Rattle.model.specs.Answers.{ofAudit};
 ghost use Rattle.model.specs.Calls.{auditCall};
-ghost use Rattle.model.specs.declared.Fate.the-variants as Fate;
-ghost use Rattle.model.specs.Limits.{recordLimits, within};
-ghost use Rattle.model.specs.Rules.{hasFate, byWrong, whenWrong};
+ghost use Rattle.model.specs.Limits.{recordLimits};
+ghost use Rattle.model.specs.Rules.{byWrong};
 ghost use Rattle.trace.specs.Checked.{listsOf};
-ghost use Rattle.trace.specs.Tested.{Rising, Tested};
-ghost use Rattle.audit.specs.Rows.{rowOf, rowAt, Names, Reads, Place};
-ghost use Rattle.audit.specs.Sweep.{upTo, leaveOf, lastOf, notAfter, entryFault, foundOf, SweptAs};
+ghost use Rattle.faults.specs.Faults.{rowOf};
+ghost use Rattle.laws.proofs.Accepted.{NeverDown, Accepted};
+ghost use Rattle.audit.specs.Rows.{rowAt, Names, Reads, Place};
+ghost use Rattle.audit.specs.Sweep.{upTo, leaveOf, SweptAs};
+use faults::Entry;
+use faults::Found;
+use faults::fault_of;
+use faults::last_of;
 use model::AuditAnswer;
 use model::Fate;
 use model::Fault;
@@ -22,30 +26,14 @@ use model::FirstFault;
 use model::PacketNumber;
 use model::Record;
 use model::Slot;
-use steps::totals::only_if;
-use steps::totals::totals;
+use totals::only_if;
+use totals::totals;
 use trace::Checked;
 
 // What a record's number of a fate names.
 enum Named {
     Fate(Fate),
     Outside,
-}
-
-// A packet of the trace beside what the record says of it, its fate being one.
-struct Entry {
-    number: PacketNumber,
-    slot: Slot,
-    value: u32,
-    fate: Fate,
-    when: Slot,
-    by: PacketNumber,
-}
-
-// The first fault of one packet.
-enum Found {
-    Nothing,
-    Fault(Fault),
 }
 
 // What stands at a place: an entry, or a fate that is none.
@@ -73,49 +61,6 @@ fn fate_of(number: u32) -> Named
     }
 }
 
-// The by of a packet that was lost or flushed is that of a later packet of the trace.
-fn by_later(packets: usize, entry: Entry) -> bool
-    ensures { λ r. ⌜ r ≡ within (suc (entry .number .0)) packets (entry .by .0) ⌝ }
-{
-    entry.number.0 < entry.by.0 && entry.by.0 as usize <= packets
-}
-
-fn by_wrong(packets: usize, entry: Entry) -> bool
-    ensures { λ r. ⌜ r ≡ byWrong packets (rowOf entry) ⌝ }
-{
-    let fate = entry.fate;
-    match fate {
-        Fate::Sent => entry.by.0 != 0,
-        Fate::Rejected => entry.by.0 != entry.number.0,
-        Fate::PushedOut => !by_later(packets, entry),
-        Fate::Preempted => !by_later(packets, entry),
-        Fate::Flushed => !by_later(packets, entry),
-    }
-}
-
-// The slot of the packet that `by` names, which is one of the trace.
-fn slot_of(slots: &[u32], by: PacketNumber) -> Slot
-    requires { ⌜ (0 < by .0) × (by .0 ≤ length (now slots)) ⌝ }
-    ensures { λ r. ⌜ r ≡ slotOf (now (slots .entry)) by ⌝ }
-{
-    let place = by.0 as usize - 1;
-    Slot(slots[place])
-}
-
-fn when_wrong(slots: &[u32], entry: Entry) -> bool
-    requires { ⌜ byWrong (length (now slots)) (rowOf entry) ≡ false ⌝ }
-    ensures { λ r. ⌜ r ≡ whenWrong (now (slots .entry)) (rowOf entry) ⌝ }
-{
-    let fate = entry.fate;
-    match fate {
-        Fate::Sent => entry.when.0 < entry.slot.0,
-        Fate::Rejected => entry.when.0 != entry.slot.0,
-        Fate::PushedOut => entry.when.0 != slot_of(slots, entry.by).0,
-        Fate::Preempted => entry.when.0 != slot_of(slots, entry.by).0,
-        Fate::Flushed => entry.when.0 < slot_of(slots, entry.by).0,
-    }
-}
-
 fn lesser(a: usize, b: usize) -> usize
     ensures { λ r. ⌜ r ≡ min a b ⌝ }
 {
@@ -124,7 +69,7 @@ fn lesser(a: usize, b: usize) -> usize
 
 // Some slots at the front of the trace that are not after `when`: the first `near`, if the last of these is not.
 fn front(slots: &[u32], near: usize, when: Slot) -> usize
-    requires { ⌜ Rising (now slots) ⌝ }
+    requires { ⌜ NeverDown (now slots) ⌝ }
     ensures { λ r. ⌜ r ≤ upTo (now (slots .entry)) (when .0) ⌝ }
 {
     if near == 0 {
@@ -138,7 +83,7 @@ fn front(slots: &[u32], near: usize, when: Slot) -> usize
 
 // How many slots at the front of the trace are not after `when`: behind the first `near` by growing steps, then by halving.
 fn up_to(slots: &[u32], near: usize, when: Slot) -> usize
-    requires { ⌜ Rising (now slots) ⌝ }
+    requires { ⌜ NeverDown (now slots) ⌝ }
     ensures { λ r. ⌜ r ≡ upTo (now (slots .entry)) (when .0) ⌝ }
 {
     let mut low = front(slots, near, when);
@@ -159,7 +104,7 @@ fn up_to(slots: &[u32], near: usize, when: Slot) -> usize
 
 // The place of the first arrival at which the packet is held no more.
 fn leave_of(slots: &[u32], entry: Entry) -> usize
-    requires { ⌜ Rising (now slots) × (byWrong (length (now slots)) (rowOf entry) ≡ false) ⌝ }
+    requires { ⌜ NeverDown (now slots) × (byWrong (length (now slots)) (rowOf entry) ≡ false) ⌝ }
     ensures { λ r. ⌜ r ≡ leaveOf (now (slots .entry)) (rowOf entry) ⌝ }
 {
     let fate = entry.fate;
@@ -170,50 +115,6 @@ fn leave_of(slots: &[u32], entry: Entry) -> usize
         Fate::Preempted => entry.by.0 as usize - 1,
         Fate::Flushed => up_to(slots, entry.number.0 as usize, entry.when),
     }
-}
-
-fn is_sent(entry: Entry) -> bool
-    ensures { λ r. ⌜ r ≡ hasFate Fate.Sent (rowOf entry) ⌝ }
-{
-    let fate = entry.fate;
-    fate.number() == Fate::Sent.number()
-}
-
-// The when of the last packet sent, this one included; 0 where none was.
-fn last_of(last: Slot, entry: Entry) -> Slot
-    ensures { λ r. ⌜ r ≡ lastOf last (rowOf entry) ⌝ }
-{
-    if is_sent(entry) {
-        return entry.when;
-    }
-    last
-}
-
-fn not_later(last: Slot, entry: Entry) -> bool
-    ensures { λ r. ⌜ r ≡ notAfter (last .0) (rowOf entry) ⌝ }
-{
-    if !is_sent(entry) {
-        return false;
-    }
-    entry.when.0 <= last.0
-}
-
-// Faults 12, 13 and 14 of one packet, in this order.
-fn fault_of(slots: &[u32], last: Slot, entry: Entry) -> Found
-    ensures { λ r. ⌜ foundOf r (entry .number) ≡ entryFault (now (slots .entry)) (last .0) (rowOf entry) ⌝ }
-{
-    if by_wrong(slots.len(), entry) {
-        return Found::Fault(Fault::ByWrong);
-    }
-    let wrong = when_wrong(slots, entry);
-    let late = not_later(last, entry);
-    if wrong {
-        return Found::Fault(Fault::WhenWrong);
-    }
-    if late {
-        return Found::Fault(Fault::NotLater);
-    }
-    Found::Nothing
 }
 
 fn entry_at(
@@ -266,7 +167,7 @@ fn sweep(
     whens: &[u32],
     bys: &[u32],
 ) -> Swept
-    requires { ⌜ Tested valueOk (now slots) (now values) room (listsOf (now fates) (now whens) (now bys)) ⌝ }
+    requires { ⌜ Accepted valueOk (now slots) (now values) room (listsOf (now fates) (now whens) (now bys)) ⌝ }
     ensures { λ r. ⌜ SweptAs (record { slots = now (slots .entry); room = room }) (rows (arrivals (now (slots .entry)) (now (values .entry))) (listsOf (now (fates .entry)) (now (whens .entry)) (now (bys .entry)))) r ⌝ }
 {
     let mut leaving = [0u32; Record::PACKETS + 1];

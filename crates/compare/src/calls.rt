@@ -1,32 +1,24 @@
 // The calls on a trace, and what is said of each: a policy or the offline plan, with the audit of its record, and the audits of damaged records.
-ghost use Prim.Native.Nat.{_<_};
-use crate::cases::Case;
-use crate::damage::damage;
-use crate::draw::draw;
-use crate::lists::fill;
-use crate::said::say_audit;
-use crate::said::say_list;
-use crate::said::say_run;
 use audit::audit;
+use cases::case::Case;
+use cases::case::PLACES;
+use cases::case::length_of;
+use draws::damage::damage_some;
+use draws::draw::draw;
 use mf::calls::mf;
-use model::Beta;
 use model::RunAnswer;
 use plan::calls::plan;
 use runs::calls::greedy;
 use runs::calls::pg;
+use said::say_audit;
+use said::say_record;
+use said::say_run;
 
-// MF's lo, hi and r.
-pub struct Marks {
-    pub lo: u32,
-    pub hi: u32,
-    pub r: usize,
-}
-
-// A policy or the offline plan, with its own parameters.
+// A policy or the offline plan.
 pub enum Call {
     Greedy,
-    PG(Beta),
-    MF(Marks),
+    PG,
+    MF,
     Plan,
 }
 
@@ -38,63 +30,75 @@ const DAMAGED: u32 = 3;
 
 fn run(
     call: Call,
+    case: Case,
     slots: &[u32],
     values: &[u32],
-    room: usize,
     fates: &mut [u32],
     whens: &mut [u32],
     bys: &mut [u32],
 ) -> RunAnswer {
-    fill(fates, BEFORE);
-    fill(whens, BEFORE);
-    fill(bys, BEFORE);
+    let room = case.room;
     match call {
         Call::Greedy => greedy(slots, values, room, fates, whens, bys),
-        Call::PG(beta) => pg(slots, values, room, beta, fates, whens, bys),
-        Call::MF(of) => mf(slots, values, room, of.lo, of.hi, of.r, fates, whens, bys),
+        Call::PG => pg(slots, values, room, case.beta(), fates, whens, bys),
+        Call::MF => mf(
+            slots,
+            values,
+            room,
+            case.lo,
+            case.hi,
+            case.r,
+            fates,
+            whens,
+            bys,
+        ),
         Call::Plan => plan(slots, values, room, fates, whens, bys),
     }
 }
 
-// A call, and the audit of what it left.
-pub fn say_call(
+// A call on a record, and the audit of what it left.
+fn say_call_on(
     sum: &mut u64,
     call: Call,
+    case: Case,
     slots: &[u32],
     values: &[u32],
-    room: usize,
     fates: &mut [u32],
     whens: &mut [u32],
     bys: &mut [u32],
 ) {
-    say_run(sum, run(call, slots, values, room, fates, whens, bys));
-    say_list(sum, fates);
-    say_list(sum, whens);
-    say_list(sum, bys);
-    say_audit(sum, audit(slots, values, room, fates, whens, bys));
+    say_run(sum, run(call, case, slots, values, fates, whens, bys));
+    say_record(sum, fates, whens, bys);
+    say_audit(sum, audit(slots, values, case.room, fates, whens, bys));
 }
 
-// From one to three damages of a record of n packets.
-fn damage_some(
-    source: &mut u64,
-    n: u32,
-    slots: &[u32],
-    fates: &mut [u32],
-    whens: &mut [u32],
-    bys: &mut [u32],
-)
-    requires { ⌜ 0 < n ⌝ }
-{
-    let times = draw(source, 3) + 1;
-    let mut i = 0;
-    while i < times {
-        damage(source, n, slots, fates, whens, bys);
-        i += 1;
-    }
+// A call on a record of the case's lengths.
+pub fn say_call(sum: &mut u64, call: Call, case: Case, slots: &[u32], values: &[u32]) {
+    let f = length_of(case.fates);
+    let w = length_of(case.whens);
+    let b = length_of(case.bys);
+    let mut fates = [BEFORE; PLACES as usize];
+    let mut whens = [BEFORE; PLACES as usize];
+    let mut bys = [BEFORE; PLACES as usize];
+    say_call_on(
+        sum,
+        call,
+        case,
+        slots,
+        values,
+        &mut fates[..f],
+        &mut whens[..w],
+        &mut bys[..b],
+    );
 }
 
-// The audit of a damaged record: PG's own, which it writes anew.
-fn say_damaged(
+// The room that a damaged record is audited with.
+fn draw_audited(source: &mut u64, room: usize) -> usize {
+    if draw(source, 4) == 0 { 1 } else { room }
+}
+
+// The audit of PG's record, damaged.
+fn say_damaged_on(
     sum: &mut u64,
     source: &mut u64,
     case: Case,
@@ -103,22 +107,32 @@ fn say_damaged(
     fates: &mut [u32],
     whens: &mut [u32],
     bys: &mut [u32],
-)
-    requires { ⌜ 0 < case .n ⌝ }
-{
+) {
     let room = case.room;
-    run(
-        Call::PG(case.beta()),
+    pg(slots, values, room, case.beta(), fates, whens, bys);
+    damage_some(source, case.n, slots, fates, whens, bys);
+    let audited = draw_audited(source, room);
+    say_audit(sum, audit(slots, values, audited, fates, whens, bys));
+}
+
+// The audit of a damaged record of the case's lengths, which PG writes anew.
+fn say_damaged(sum: &mut u64, source: &mut u64, case: Case, slots: &[u32], values: &[u32]) {
+    let f = length_of(case.fates);
+    let w = length_of(case.whens);
+    let b = length_of(case.bys);
+    let mut fates = [BEFORE; PLACES as usize];
+    let mut whens = [BEFORE; PLACES as usize];
+    let mut bys = [BEFORE; PLACES as usize];
+    say_damaged_on(
+        sum,
+        source,
+        case,
         slots,
         values,
-        room,
-        fates,
-        whens,
-        bys,
+        &mut fates[..f],
+        &mut whens[..w],
+        &mut bys[..b],
     );
-    damage_some(source, case.n, slots, fates, whens, bys);
-    let audited = if draw(source, 4) == 0 { 1 } else { room };
-    say_audit(sum, audit(slots, values, audited, fates, whens, bys));
 }
 
 // The audits of damaged records, where a packet is there and c mod 4 is not 3.
@@ -129,9 +143,6 @@ pub fn say_damages(
     case: Case,
     slots: &[u32],
     values: &[u32],
-    fates: &mut [u32],
-    whens: &mut [u32],
-    bys: &mut [u32],
 ) {
     if case.n == 0 {
         return;
@@ -141,7 +152,7 @@ pub fn say_damages(
     }
     let mut i = 0;
     while i < DAMAGED {
-        say_damaged(sum, source, case, slots, values, fates, whens, bys);
+        say_damaged(sum, source, case, slots, values);
         i += 1;
     }
 }

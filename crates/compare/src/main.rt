@@ -1,14 +1,6 @@
 // Answers the random cases of second/CASES.md with the proved calls, and writes one line for each batch of them.
 mod answers;
-mod bad;
 mod calls;
-mod cases;
-mod damage;
-mod draw;
-mod hand;
-mod lists;
-mod live;
-mod said;
 
 use crate::answers::say_case;
 use libc::STDOUT_FILENO;

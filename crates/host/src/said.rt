@@ -3,12 +3,12 @@ ghost use mathlib.Core.Path.{_≡_};
 ghost use Prim.Native.Nat.{_+_, _*_, _<_, _^_};
 ghost use Rattle.model.specs.Answers.{ofRun, ofAudit};
 ghost use Rattle.host.specs.Said.{tallied, told, SaidOfAudit};
+use entry::put;
 use model::AuditAnswer;
 use model::RunAnswer;
 use model::Tally;
 use model::Totals;
-use steps::entry::put;
-use steps::totals::none;
+use totals::none;
 
 fn put_tally(list: &mut [u32], place: usize, tally: Tally)
     requires { ⌜ place < 12 ⌝ }

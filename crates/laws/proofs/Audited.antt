@@ -61,7 +61,7 @@ audit-ran slots values room entries z h = rw (z, obeys-clearFrom _ [] (recorded 
 
 module _ (slots values : List ℕ) (room : ℕ) (lists : Lists) where
   -- a run that is not refused, whatever its own parameters and its test of the values
-  audited : (own : Verdict) (ok : ℕ → Bool) → ((v : ℕ) → ok v ≡ true → valueOk v ≡ true) → (entries : List Entry) → Accepted slots values room lists →
+  audited : (own : Verdict) (ok : ℕ → Bool) → ((v : ℕ) → ok v ≡ true → valueOk v ≡ true) → (entries : List Entry) → Accepted ok slots values room lists →
       traceRefusal own ok slots values room lists .number ≡ 0 → Obeys (record { slots = slots; room = room }) (recorded slots values entries) →
       auditCall slots values room (runUnless (traceRefusal own ok slots values room lists) lists (ran slots values entries) .lists)
       ≡ runUnless (traceRefusal own ok slots values room lists) lists (ran slots values entries) .reply

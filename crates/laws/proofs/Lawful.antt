@@ -3,6 +3,7 @@
 use Prim.Native.Nat.{ℕ, _≤_}
 use native.Mathlib.Omega.{arith}
 use mathlib.Core.Path.{_≡_, refl}
+use mathlib.Core.Bool.{Bool}
 use mathlib.Core.List.{List, []}
 use Rattle.model.specs.declared.Beta.{Beta}
 use Rattle.model.specs.declared.Packet.{Packet}
@@ -11,7 +12,7 @@ use Rattle.model.specs.Record.{Lists}
 use Rattle.model.specs.Rules.{Obeys}
 use Rattle.model.specs.Totals.{mostHeldFrom}
 use Rattle.model.specs.Course.{Policy, Decided, byRule, course, first}
-use Rattle.model.specs.Refusals.{plainRefusal, pgRefusal}
+use Rattle.model.specs.Refusals.{valueOk, plainRefusal, pgRefusal}
 use Rattle.model.specs.Policies.Greedy.{greedyRule}
 use Rattle.model.specs.Policies.PG.{pgRule}
 use Rattle.model.specs.Policies.Plan.{planKept, keptRule}
@@ -36,7 +37,7 @@ pub record Lawful {S : Type 0} (P : Policy S) (s : S) (slots values : List ℕ) 
   pub obeys : Obeys (record { slots = slots; room = room }) (recorded slots values (course P first s (arrivals slots values)))
 
 pub lawful : {S : Type 0} {P : Policy S} {F : Fifo P} {Fit : ℕ → S → Type 0} → Marks F Fit → (s : S) → P .held s ≡ [] → Fit 0 s →
-    (slots values : List ℕ) (room : ℕ) (lists : Lists) → Accepted slots values room lists →
+    {ok : ℕ → Bool} (slots values : List ℕ) (room : ℕ) (lists : Lists) → Accepted ok slots values room lists →
     mostQueue P first s (arrivals slots values) ≤ room → Lawful P s slots values room
 lawful {P} {F} {Fit} M s empty fit slots values room lists A fits =
     let trace = arrivals slots values in
@@ -67,7 +68,7 @@ byRule-marks rule fair = record { arrival = λ last a s h. tt; finish = λ last 
 module _ (slots values : List ℕ) (room : ℕ) (lists : Lists) where
   -- a run by a fair rule that keeps within the room
   by-rule : (rule : List Packet → Packet → Decided) → ((queue : List Packet) (p : Packet) → Fair queue p (rule queue p)) →
-      Accepted slots values room lists → mostQueue (byRule rule) first [] (arrivals slots values) ≤ room → Lawful (byRule rule) [] slots values room
+      Accepted valueOk slots values room lists → mostQueue (byRule rule) first [] (arrivals slots values) ≤ room → Lawful (byRule rule) [] slots values room
   by-rule rule fair A fits = lawful (byRule-marks rule fair) [] refl tt slots values room lists A fits
 
   pub lawful-greedy : plainRefusal slots values room lists .number ≡ 0 → Lawful (byRule (greedyRule room)) [] slots values room

@@ -19,8 +19,8 @@ use Rattle.steps.specs.Window.{windowOf, Within}
 use Rattle.steps.specs.Step.{Stepped, arriving}
 use Rattle.steps.specs.Run.{Runnable, Ran}
 use Rattle.steps.specs.Places.{packetAt}
-use Rattle.mf.specs.Mark.{beside}
-use Rattle.mf.specs.Flush.{Finished, ending}
+use Rattle.marks.specs.Mark.{beside}
+use Rattle.flush.specs.Flush.{Finished, ending}
 use Rattle.steps.proofs.Windows.{window}
 use Rattle.steps.proofs.Arriving.{window-length}
 use Rattle.steps.proofs.Turning.{entered-both}

@@ -1,16 +1,15 @@
 // The public call of MF: it tests its input, runs, and answers the totals of the record that it wrote.
 ghost use mathlib.Core.Path.{_≡_};
-ghost use Prim.Native.Nat.{_≤_};
 ghost use lib.ListN.{length};
 ghost use Rattle.model.specs.Calls.{ran, mfCall};
 ghost use Rattle.model.specs.Policies.MF.{mfPolicy, mfRun, unmarked};
 ghost use Rattle.trace.specs.Checked.{markingOf};
-ghost use Rattle.steps.specs.Entry.{lists};
+ghost use Rattle.entry.specs.Entry.{lists};
 ghost use Rattle.steps.specs.Calls.{Ready, outcome};
 use crate::mf::run_mf;
 use model::Record;
 use model::RunAnswer;
-use steps::totals::totals;
+use totals::totals;
 use trace::Checked;
 
 // MF's run over an accepted trace, and its totals.
@@ -26,7 +25,6 @@ fn finish_mf(
     bys: &mut [u32],
 ) -> RunAnswer
     requires { ⌜ Ready (mfPolicy room (markingOf lo hi r) (now slots)) (unmarked (length (now slots))) (now slots) (now values) (lists (now fates) (now whens) (now bys)) ⌝ }
-    requires { ⌜ 1 ≤ room ⌝ }
     ensures { λ answer. ⌜ outcome answer (lists (now (fates .exit)) (now (whens .exit)) (now (bys .exit))) ≡ ran (now (slots .entry)) (now (values .entry)) (mfRun room (markingOf lo hi r) (now (slots .entry)) (now (values .entry))) ⌝ }
 {
     let mut marks = [0u32; Record::PACKETS];

@@ -1,6 +1,2 @@
-pub mod Ordering
-pub mod Keeping
 pub mod Planning
 pub mod Ready
-pub mod Cases
-pub mod Merging

@@ -1,59 +1,95 @@
--- Why the plan's run is the run of its rule: a packet is held or rejected as its entry in the kept list says, and that list is the plan's.
-use Prim.Native.Nat.{ℕ}
-use mathlib.Core.Path.{_≡_, refl, sym, ap, subst, _∙_}
-use mathlib.Core.List.{List, []}
+-- Why the plan's run is the run of its rule: a packet is held or rejected as its entry in the kept list says.
+use Prim.Native.Nat.{ℕ, max, _+_, _-_, _≤_, _<_}
+use mathlib.Core.Path.{_≡_, refl, ap, subst}
+use mathlib.Core.Bool.{Bool, true, false, cond}
+use mathlib.Core.List.{List, [], _∷_, _++_}
 use native.Mathlib.Omega.{arith}
-use lib.ListN.{length, getD, replicate, length-replicate}
-use borrow.Author.Tests.{ne-eqb}
+use lib.ListN.{length, getD}
+use lib.Dec.{eqb}
 use Rattle.model.specs.declared.Packet.{Packet}
-use Rattle.model.specs.Packets.{placeOf, arrivals}
-use Rattle.model.specs.Record.{Lists}
-use Rattle.model.specs.Course.{byRule}
-use Rattle.model.specs.Policies.Plan.{keepInTurn, planKept, keptRule}
-use Rattle.laws.proofs.Room.{mostQueue-plan}
+use Rattle.model.specs.declared.Slot.{Slot}
+use Rattle.model.specs.declared.Fate.the-variants.{Rejected}
+use Rattle.model.specs.Record.{Lists, enter}
+use Rattle.model.specs.Course.{Step, Decided, andThen, byRule, held as holding, rejected as rejecting}
+use Rattle.model.specs.Policies.Plan.{keptRule}
 use Rattle.queue.specs.declared.Choice.the-variants.{Hold, Reject}
 use Rattle.queue.specs.Choose.{applied}
-use Rattle.steps.specs.Places.{packetsAt}
-use Rattle.plan.specs.Order.{OrderedFrom}
-use Rattle.plan.specs.Keep.{Keepable, TakenInTurn}
+use Rattle.steps.specs.declared.Window.{Window}
+use Rattle.entry.specs.Entry.{entry}
+use Rattle.steps.specs.Window.{windowOf, Within, Holds}
+use Rattle.steps.specs.Guarded.{Guarded, liesWithin, hasPlace, Unmoved}
+use Rattle.steps.specs.Step.{Stepped, arrival, sending, turning}
+use Rattle.steps.specs.Places.{packetAt}
 use Rattle.steps.specs.Run.{Runnable, Ran}
-use Rattle.plan.specs.Plan.{planRule, Plannable}
-use Rattle.steps.proofs.Places.{arrivals-length}
+use Rattle.steps.proofs.Guarding.{within-lies, free-place}
+use Rattle.steps.proofs.Arriving.{held, rejected}
+use Rattle.steps.proofs.Turning.{sent-free, turned}
+use Rattle.steps.proofs.Running.{Going, going-turn, going-end}
+use Rattle.plan.specs.Plan.{heldIf}
 
-module _ (kept : List ℕ) (queue : List Packet) (p : Packet) (place : ℕ) (at : place ≡ placeOf (p .number)) where
-  pub kept-holds : getD kept place 0 ≡ 1 → keptRule kept queue p ≡ applied Hold queue p
-  unfolding keptRule
-  kept-holds e = rw (← at, e) refl
+-- what the ends of slots answer of a window
+abbrev pub Sent : Window → List ℕ → List ℕ → Slot → Slot → Lists → Window → Lists → Type 0
+Sent w numbers values now until before r after =
+    Guarded (liesWithin w numbers values)
+    (Stepped (sending now until (windowOf w numbers values)) before r numbers values after)
+    (Unmoved w numbers values r numbers values × (after ≡ before))
 
-  pub kept-rejects : (getD kept place 0 ≡ 1 → ⊥) → keptRule kept queue p ≡ applied Reject queue p
-  unfolding keptRule
-  kept-rejects n = rw (← at, ne-eqb (getD kept place 0) 1 n) refl
+module _ (w : Window) (numbers values : List ℕ) (W : Within w numbers values) where
+  sent : (now until : Slot) (before after : Lists) (r : Window) → Sent w numbers values now until before r after
+      → Stepped (sending now until (windowOf w numbers values)) before r numbers values after
+  sent now until before after r S = S .passed (within-lies w numbers values W)
 
-module _ (room : ℕ) (slots values : List ℕ) (P : Plannable room slots values) where
-  pub plan-keepable : (kept : List ℕ) → kept ≡ replicate (length slots) 0 → Keepable slots room kept
-  plan-keepable kept none =
-      record {
-        same = ap length none ∙ length-replicate (length slots) 0;
-        room-to = P .room-to;
-        slot-from = P .slot-from;
-        sorted = P .sorted;
-      }
+  -- one packet: the sendings before its slot, then it is held or rejected
+  module _ (short : w .tail - w .head < length values) (now slot : Slot) (p : Packet) (before between : Lists) (left : Window) (S : Sent w numbers values now slot before left between) where
+    pub take-held : (kept : Bool) → kept ≡ true → (r : Window) (numbers′ values′ : List ℕ)
+        → Guarded (hasPlace left numbers values) (Holds r numbers′ values′ (windowOf left numbers values ++ p ∷ [])) (Unmoved left numbers values r numbers′ values′)
+        → Stepped (turning (heldIf kept) now (arrival slot p) (windowOf w numbers values)) before r numbers′ values′ between
+    take-held kept e r numbers′ values′ H =
+        let done = sent now slot before between left S in
+        let free = free-place left numbers values (done .within) (sent-free now slot w numbers values before between left W short done) in
+        rw e
+        (turned (applied Hold) now (arrival slot p) (windowOf w numbers values) before between between left r numbers values numbers′ values′ done
+        (held left numbers values (done .within) slot p between r numbers′ values′ (H .passed free)))
 
-  module _ (order kept kept′ : List ℕ) (none : kept ≡ replicate (length slots) 0) (O : OrderedFrom 0 values order) (T : TakenInTurn slots room order kept kept′) where
-    pub plan-kept : kept′ ≡ planKept room (arrivals slots values)
-    plan-kept =
-        T values (P .same)
-        ∙ ap (λ (k : List ℕ). keepInTurn room (arrivals slots values) k (packetsAt slots values order)) (none ∙ ap (λ (n : ℕ). replicate n 0) (sym (arrivals-length 1 slots values (P .same))))
-        ∙ ap (keepInTurn room (arrivals slots values) (replicate (length (arrivals slots values)) 0)) (O .by-value slots (sym (P .same)))
+    pub take-rejected : (kept : Bool) → kept ≡ false → (after : Lists) → after ≡ enter (entry (p .number) Rejected slot (p .number)) between
+        → Stepped (turning (heldIf kept) now (arrival slot p) (windowOf w numbers values)) before left numbers values after
+    take-rejected kept e after E =
+        let done = sent now slot before between left S in
+        rw e
+        (turned (applied Reject) now (arrival slot p) (windowOf w numbers values) before between after left left numbers values numbers values done
+        (rejected left numbers values (done .within) slot p between after E))
 
-    pub plan-runnable : Runnable (byRule (keptRule kept′)) [] slots values
-    plan-runnable =
-        record {
-          same = P .same;
-          few = P .few;
-          slots-fit = P .slots-fit;
-          short = rw plan-kept (omega (arith, mostQueue-plan room (arrivals slots values), P .room-to));
-        }
+-- the entry of a packet decides as the rule does
+kept-rule : (slots values kept : List ℕ) (i : ℕ) (queue : List Packet)
+    → heldIf (eqb (getD kept i 0) 1) queue (packetAt slots values i .packet) ≡ keptRule kept queue (packetAt slots values i .packet)
+unfolding keptRule
+kept-rule slots values kept i queue =
+    let place : (i + 1) - 1 ≡ i = omega arith in
+    rw place (either (eqb (getD kept i 0) 1))
+  where
+    either : (t : Bool) → heldIf t queue (packetAt slots values i .packet) ≡ cond t (record { decision = holding; queue = queue ++ packetAt slots values i .packet ∷ [] }) (record { decision = rejecting; queue = queue })
+    either true = refl
+    either false = refl
 
-    pub plan-ran : (before after : Lists) (most : ℕ) → Ran (byRule (keptRule kept′)) [] slots values before after most → Ran (byRule (planRule room slots values)) [] slots values before after most
-    plan-ran before after most R = subst (λ (k : List ℕ). Ran (byRule (keptRule k)) [] slots values before after most) plan-kept R
+kept-turning : (slots values kept : List ℕ) (i : ℕ) (now : Slot) (queue : List Packet)
+    → turning (heldIf (eqb (getD kept i 0) 1)) now (packetAt slots values i) queue ≡ turning (keptRule kept) now (packetAt slots values i) queue
+kept-turning slots values kept i now queue =
+    let before = sending now (packetAt slots values i .slot) queue in
+    ap (λ (d : Decided). andThen (before .entries) (byRule (λ q x. d) .arrive (packetAt slots values i) (before .next))) (kept-rule slots values kept i (before .next))
+
+-- the loop over the packets
+module _ (slots values kept : List ℕ) (before : Lists) (R : Runnable (byRule (keptRule kept)) [] slots values)
+    (numbers queued : List ℕ) (w : Window) (last : Slot) (most i : ℕ) (now : Lists) (G : Going (keptRule kept) slots values before numbers queued (w .head) (w .tail) (last .0) most i now) where
+  pub run-turn : i < length slots → (r : Window) (numbers′ queued′ : List ℕ) (after : Lists) (most′ : ℕ)
+      → Stepped (turning (heldIf (eqb (getD kept i 0) 1)) last (packetAt slots values i) (windowOf w numbers queued)) now r numbers′ queued′ after
+      → length queued′ ≡ length queued → most′ ≡ max most (r .tail - r .head)
+      → Going (keptRule kept) slots values before numbers′ queued′ (r .head) (r .tail) (getD slots i 0) most′ (i + 1) after
+  run-turn some r numbers′ queued′ after most′ S =
+      going-turn (keptRule kept) slots values before R numbers queued (w .head) (w .tail) (last .0) most i now G some r numbers′ queued′ after most′
+      (subst (λ (s : Step (List Packet)). Stepped s now r numbers′ queued′ after) (kept-turning slots values kept i last (windowOf w numbers queued)) S)
+
+  pub run-end : length slots ≤ i → (r : Window) (after : Lists) (until : Slot) → until .0 ≡ last .0 + (w .tail - w .head)
+      → Sent w numbers queued last until now r after → Ran (byRule (keptRule kept)) [] slots values before after most
+  run-end done r after until u S =
+      going-end (keptRule kept) slots values before R numbers queued (w .head) (w .tail) (last .0) most i now G done r after until u
+      (sent w numbers queued (G .within) last until now after r S)

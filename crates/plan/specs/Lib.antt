@@ -1,3 +1,1 @@
-pub mod Order
-pub mod Keep
 pub mod Plan

@@ -1,4 +1,3 @@
-pub mod Tests
 pub mod Padded
 pub mod Holding
 pub mod Whole

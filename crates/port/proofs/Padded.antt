@@ -9,14 +9,14 @@ use lib.ListN.{length, getD, take, drop, set, replicate, length-append, length-t
 use lib.Seq.{take-append-le, drop-append-le, take-at, drop-cons, set-at}
 use lib.Dec.{eqb}
 use borrow.Author.Tests.{eqb-true}
+use Rattle.checks.proofs.Tests.{left-part, right-part}
 use Rattle.model.specs.Port.{all}
 use Rattle.queue.specs.Slide.{slid}
 use Rattle.queue.proofs.Moving.{slid-moved}
 
 -- two tests that both hold
 pub both : (s t : Bool) → s && t ≡ true → (s ≡ true) × (t ≡ true)
-both true t e = (refl, e)
-both false t e = let z : _≡_ {A = ℕ} 0 1 = cc in absurd (omega arith)
+both s t e = (left-part s t e, right-part s t e)
 
 zeros : (list : List ℕ) → all (eqb 0) list ≡ true → list ≡ replicate (length list) 0
 unfolding all

@@ -1,5 +1,4 @@
 // The live PG port, a value, with the limits that belong to it. What its calls mean stands over plain lists in crate model.
-mod checks;
 mod places;
 pub mod ranges;
 
@@ -12,13 +11,13 @@ ghost use Rattle.model.specs.Answers.{causeNumber};
 ghost use Rattle.model.specs.Refusals.{valueOk};
 ghost use Rattle.model.specs.Port.{fresh, zeroPort, sound as soundness, queueOf, holding, makeCall, arriveCall, endOfSlotCall};
 ghost use Rattle.port.specs.State.{stateOf, limitsOf, makingOf, arrivalOf, slotOf, refusing, Placed, Taking};
-use crate::checks::all_zero;
-use crate::checks::numbers_rise;
-use crate::checks::values_ok;
 use crate::places::take_out;
 use crate::ranges::beta_ok;
 use crate::ranges::room_ok;
-use crate::ranges::value_ok;
+use checks::all_zero;
+use checks::numbers_rise;
+use checks::value_ok;
+use checks::values_ok;
 use model::ArrivalAnswer;
 use model::Beta;
 use model::Cause;

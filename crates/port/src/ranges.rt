@@ -1,23 +1,9 @@
-// The ranges of a value, of a room and of beta, tested the same way by every call: a trace's and a live port's.
+// The ranges of a room and of beta, tested the same way by every call: a trace's and a live port's.
 ghost use mathlib.Core.Path.{_≡_};
-ghost use Rattle.model.specs.Limits.{within};
-ghost use Rattle.model.specs.Refusals.{valueOk, roomOk, betaOk};
+ghost use Rattle.model.specs.Refusals.{roomOk, betaOk};
 use crate::Port;
+use checks::in_range;
 use model::Beta;
-use model::Record;
-
-// n is one of 1, .., high.
-fn in_range(high: usize, n: usize) -> bool
-    ensures { λ r. ⌜ r ≡ within 1 high n ⌝ }
-{
-    1 <= n && n <= high
-}
-
-pub fn value_ok(value: u32) -> bool
-    ensures { λ r. ⌜ r ≡ valueOk value ⌝ }
-{
-    in_range(Record::VALUE as usize, value as usize)
-}
 
 pub fn room_ok(room: usize) -> bool
     ensures { λ r. ⌜ r ≡ roomOk room ⌝ }

@@ -11,7 +11,7 @@ use Rattle.model.specs.Policies.PG.{pgRule}
 use Rattle.model.specs.Refusals.{valueOk, plainRefusal, pgRefusal, betaRefusal}
 use Rattle.laws.proofs.WellFormed.{wellFormed-greedy, wellFormed-pg}
 use Rattle.laws.proofs.Lawful.{lawful-greedy, lawful-pg}
-use Rattle.trace.proofs.Accepted.{accepted}
+use Rattle.laws.proofs.Accepted.{accepted}
 use Rattle.steps.specs.Calls.{Ready}
 use Rattle.steps.proofs.Answering.{ready}
 
@@ -21,11 +21,11 @@ module _ (slots values : List ℕ) (room : ℕ) (lists : Lists) where
   greedy-ready e =
       let zero-number : plainRefusal slots values room lists .number ≡ 0 = ap (λ (v : Verdict). v .number) (sym e) in
       let T = accepted clear valueOk slots values room lists zero-number in
-      (ready (byRule (greedyRule room)) [] valueOk (λ v h. h) slots values room lists T (wellFormed-greedy slots values (T .values-length) room) (lawful-greedy slots values room lists zero-number), T .room-from)
+      (ready (byRule (greedyRule room)) [] valueOk (λ v h. h) slots values room lists T (wellFormed-greedy slots values (T .lengths) room) (lawful-greedy slots values room lists zero-number), T .room-from)
 
   pub pg-ready : (beta : Beta) → clear ≡ pgRefusal beta slots values room lists → Ready (byRule (pgRule room beta)) [] slots values lists × (1 ≤ room)
   unfolding pgRefusal
   pg-ready beta e =
       let zero-number : pgRefusal beta slots values room lists .number ≡ 0 = ap (λ (v : Verdict). v .number) (sym e) in
       let T = accepted (betaRefusal beta) valueOk slots values room lists zero-number in
-      (ready (byRule (pgRule room beta)) [] valueOk (λ v h. h) slots values room lists T (wellFormed-pg slots values (T .values-length) room beta) (lawful-pg slots values room lists beta zero-number), T .room-from)
+      (ready (byRule (pgRule room beta)) [] valueOk (λ v h. h) slots values room lists T (wellFormed-pg slots values (T .lengths) room beta) (lawful-pg slots values room lists beta zero-number), T .room-from)

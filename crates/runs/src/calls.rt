@@ -6,13 +6,13 @@ ghost use Rattle.model.specs.Calls.{ran, greedyCall, pgCall};
 ghost use Rattle.model.specs.Course.{byRule, course, first};
 ghost use Rattle.model.specs.Packets.{arrivals};
 ghost use Rattle.queue.specs.Choose.{ruleOf};
-ghost use Rattle.steps.specs.Entry.{lists};
+ghost use Rattle.entry.specs.Entry.{lists};
 ghost use Rattle.steps.specs.Calls.{Ready, outcome};
 use crate::run::run;
 use model::Beta;
 use model::RunAnswer;
 use queue::Rule;
-use steps::totals::totals;
+use totals::totals;
 use trace::Checked;
 
 // The run of a rule over an accepted trace, and its totals.

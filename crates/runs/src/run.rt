@@ -6,7 +6,7 @@ ghost use Prim.Native.Nat.{_-_, _≤_, _<_};
 ghost use lib.ListN.{length};
 ghost use Rattle.steps.specs.Window.{windowOf, Within};
 ghost use Rattle.steps.specs.Step.{Stepped, arrival, turning};
-ghost use Rattle.steps.specs.Entry.{lists};
+ghost use Rattle.entry.specs.Entry.{lists};
 ghost use Rattle.steps.specs.Run.{Runnable, Ran};
 use model::Packet;
 use model::PacketNumber;
@@ -71,47 +71,37 @@ pub fn run(
 {
     let mut numbers = [0u32; PLACES];
     let mut held = [0u32; PLACES];
-    let mut head = 0;
-    let mut tail = 0;
-    let mut last: u32 = 1;
+    let mut w = Window { head: 0, tail: 0 };
+    let mut last = Slot(1);
     let mut most = 0;
     let mut i = 0;
     while i < slots.len() {
-        let slot = slots[i];
+        let slot = Slot(slots[i]);
         let p = Packet {
             number: PacketNumber((i + 1) as u32),
             value: values[i],
         };
-        let w = take(
+        w = take(
             &mut numbers,
             &mut held,
             fates,
             whens,
             bys,
-            Window { head, tail },
+            w,
             room,
             rule,
-            Slot(last),
-            Slot(slot),
+            last,
+            slot,
             p,
         );
-        head = w.head;
-        tail = w.tail;
-        if most < tail - head {
-            most = tail - head;
+        let length = w.tail - w.head;
+        if most < length {
+            most = length;
         }
         last = slot;
         i += 1;
     }
-    send_until(
-        &numbers,
-        &held,
-        fates,
-        whens,
-        bys,
-        Window { head, tail },
-        Slot(last),
-        Slot(last + (tail - head) as u32),
-    );
+    let until = Slot(last.0 + (w.tail - w.head) as u32);
+    send_until(&numbers, &held, fates, whens, bys, w, last, until);
     most as u32
 }

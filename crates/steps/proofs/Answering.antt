@@ -5,10 +5,7 @@ use mathlib.Core.Bool.{Bool, true, false}
 use mathlib.Core.List.{List}
 use native.Mathlib.Omega.{arith}
 use lib.ListN.{length, getD}
-use lib.Dec.{eqb}
 use Rattle.model.specs.declared.Totals.{Totals}
-use Rattle.model.specs.declared.Cause.{Cause}
-use Rattle.model.specs.declared.Cause.the-variants as causes
 use Rattle.model.specs.declared.Refusal.{Refusal}
 use Rattle.model.specs.declared.RunAnswer.the-variants.{Ran, Refused}
 use Rattle.model.specs.Limits.{recordLimits}
@@ -23,11 +20,12 @@ use Rattle.model.specs.Calls.{Outcome, ran, runUnless}
 use Rattle.laws.proofs.WellFormed.{WellFormed}
 use Rattle.laws.proofs.Lawful.{Lawful}
 use Rattle.laws.proofs.Held.{mostQueue}
-use Rattle.trace.specs.Tested.{Tested}
-use Rattle.trace.proofs.Accepted.{within-to}
-use Rattle.steps.specs.Totals.{Countable, totalsBy}
+use Rattle.laws.proofs.Accepted.{Accepted}
+use Rattle.trace.proofs.Laws.{cause-refuses}
+use Rattle.totals.specs.Totals.{Countable, CountedOrNone, totalsBy}
+use Rattle.steps.specs.Run as run
 use Rattle.steps.specs.Calls.{outcome, Ready}
-use Rattle.steps.proofs.Totalling.{rows-totals}
+use Rattle.totals.proofs.Totalling.{rows-totals}
 
 module _ {S : Type 0} (P : Policy S) (s : S) (slots values : List ℕ) (lists : Lists) (R : Ready P s slots values lists) where
   abbrev entries : List Entry
@@ -36,10 +34,10 @@ module _ {S : Type 0} (P : Policy S) (s : S) (slots values : List ℕ) (lists : 
   abbrev written : Lists
   written = recordOf (length slots) entries
 
-  pub all-written : (after : Lists) → after ≡ entered entries lists → after ≡ written
+  all-written : (after : Lists) → after ≡ entered entries lists → after ≡ written
   all-written after e = e ∙ R .formed .all-written lists (R .sized)
 
-  pub countable : (after : Lists) → after ≡ written → Countable values (after .fates)
+  countable : (after : Lists) → after ≡ written → Countable values (after .fates)
   countable after e =
       subst (λ (l : Lists). Countable values (l .fates)) (sym e)
       (record {
@@ -51,24 +49,19 @@ module _ {S : Type 0} (P : Policy S) (s : S) (slots values : List ℕ) (lists : 
   totals-rows : totalsOf (rows (arrivals slots values) written) ≡ totalsBy values (written .fates) (mostQueue P first s (arrivals slots values))
   totals-rows = rows-totals slots values written (R .same) (R .formed .sized) ∙ ap (totalsBy values (written .fates)) (R .most)
 
-  pub answered : (after : Lists) → after ≡ written → (most : ℕ) → most ≡ mostQueue P first s (arrivals slots values)
+  answered : (after : Lists) → after ≡ written → (most : ℕ) → most ≡ mostQueue P first s (arrivals slots values)
       → (t : Totals) → t ≡ totalsBy values (after .fates) most → outcome (Ran t) after ≡ ran slots values entries
   answered after e most m t k =
       let same : t ≡ totalsOf (rows (arrivals slots values) written) =
       k ∙ ap₂ (λ (l : Lists) (n : ℕ). totalsBy values (l .fates) n) e m ∙ sym totals-rows in
       ap₂ (λ (u : Totals) (l : Lists). outcome (Ran u) l) same e
 
--- a refusal's number is not 0
-pub cause-refuses : (cause : Cause) → eqb (causeNumber cause) 0 ≡ false
-cause-refuses causes.Lengths = refl
-cause-refuses causes.Packets = refl
-cause-refuses causes.Room = refl
-cause-refuses causes.Parameters = refl
-cause-refuses causes.Slot = refl
-cause-refuses causes.Value = refl
-cause-refuses causes.Spent = refl
-cause-refuses causes.Unsound = refl
-cause-refuses causes.Text = refl
+  -- a run that wrote the record and answers its greatest length, with the totals counted from it, is the call's outcome
+  pub finished : (after : Lists) (most : ℕ) → run.Ran P s slots values lists after most → (t : Totals) → CountedOrNone values (after .fates) most t
+      → outcome (Ran t) after ≡ ran slots values entries
+  finished after most done t told =
+      let e = all-written after (done .written) in
+      answered after e most (done .longest) t (told .counted (countable after e))
 
 pub refused : (v : Verdict) (lists : Lists) (done : Outcome) (f : Refusal) → record { number = causeNumber (f .cause); place = f .place } ≡ v
     → outcome (Refused f) lists ≡ runUnless v lists done
@@ -80,15 +73,15 @@ unfolding runUnless
 not-refused v lists done e = rw (← e) refl
 
 pub ready : {S : Type 0} (P : Policy S) (s : S) (ok : ℕ → Bool) → ((v : ℕ) → ok v ≡ true → valueOk v ≡ true)
-    → (slots values : List ℕ) (room : ℕ) (lists : Lists) → Tested ok slots values room lists
+    → (slots values : List ℕ) (room : ℕ) (lists : Lists) → Accepted ok slots values room lists
     → WellFormed slots values (course P first s (arrivals slots values)) → Lawful P s slots values room → Ready P s slots values lists
 ready P s ok in-range slots values room lists T W L =
     record {
-      same = T .values-length;
+      same = T .lengths;
       few = T .few;
       slots-fit = T .packets .slot-to;
-      values-fit = λ k h. within-to 1 (recordLimits .value) (getD values k 0) (in-range (getD values k 0) (T .packets .taken k (rw (T .values-length) at h)));
-      sized = record { fates = T .fates-length; whens = T .whens-length; bys = T .bys-length };
+      values-fit = λ k h. in-range (getD values k 0) (T .packets .taken k (rw (T .lengths) at h));
+      sized = T .sized;
       short = omega (arith, L .within-room, T .room-to);
       formed = W;
       most = L .most;

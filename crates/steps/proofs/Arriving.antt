@@ -24,7 +24,7 @@ use Rattle.queue.specs.Choose.{betaPlace, overflowChoice, greedyChoice, choose,
 use Rattle.queue.proofs.Choose.{decided}
 use Rattle.queue.proofs.Packets.{packets-values, packets-length, packets-at}
 use Rattle.steps.specs.declared.Window.{Window}
-use Rattle.steps.specs.Entry.{entry}
+use Rattle.entry.specs.Entry.{entry}
 use Rattle.steps.specs.Window.{part, windowOf, Within, Holds}
 use Rattle.steps.specs.Step.{Stepped, arrival, arriving}
 use Rattle.steps.proofs.Windows.{part-length}

@@ -1,28 +1,22 @@
 -- What the test of a window tells, and how a promise for all input is given and used.
 use Prim.Native.Nat.{ℕ, _-_, _<_}
-use mathlib.Core.Path.{_≡_, subst}
-use mathlib.Core.Bool.{Bool, true, false, _&&_}
+use mathlib.Core.Path.{_≡_, sym, _∙_}
+use mathlib.Core.Bool.{Bool, true, false, _&&_, true≢false}
 use mathlib.Core.List.{List}
 use lib.ListN.{length}
 use lib.Dec.{eqb, leb, ltb}
 use borrow.Author.Tests.{ltb-true, leb-true, eqb-true, lt-ltb, le-leb, eq-eqb}
-use Rattle.trace.proofs.Laws.{left-part, right-part}
+use Rattle.checks.proofs.Tests.{left-part, right-part}
 use Rattle.steps.specs.declared.Window.{Window}
 use Rattle.steps.specs.Window.{Within}
 use Rattle.steps.specs.Guarded.{Guarded, liesWithin, hasPlace}
 
-module _ (test : Bool) (P F : Type 0) where
+module _ {test : Bool} {P F : Type 0} where
   pub by-pass : test ≡ true → P → Guarded test P F
-  by-pass e p = rw e p
+  by-pass e p = record { passed = λ t. p; failed = λ t. absurd (true≢false (sym e ∙ t)) }
 
   pub by-fail : test ≡ false → F → Guarded test P F
-  by-fail e f = rw e f
-
-  pub passed : test ≡ true → Guarded test P F → P
-  passed e g = subst (λ (b : Bool). Guarded b P F) e g
-
-  pub failed : test ≡ false → Guarded test P F → F
-  failed e g = subst (λ (b : Bool). Guarded b P F) e g
+  by-fail e f = record { passed = λ t. absurd (true≢false (sym t ∙ e)); failed = λ t. f }
 
 module _ (w : Window) (numbers values : List ℕ) where
   pub within-lies : Within w numbers values → liesWithin w numbers values ≡ true

@@ -3,9 +3,7 @@ pub mod Guarding
 pub mod Sending
 pub mod Arriving
 pub mod Turning
-pub mod Counting
 pub mod Places
 pub mod Coursing
 pub mod Running
-pub mod Totalling
 pub mod Answering

@@ -14,7 +14,7 @@ use Rattle.model.specs.declared.SlotAnswer.the-variants.{Sent}
 use Rattle.model.specs.declared.Fate.the-variants as fates
 use Rattle.model.specs.Record.{Lists, enter, entered, sentAt}
 use Rattle.model.specs.Course.{Step, Decided, andThen, byRule, slotEnds}
-use Rattle.steps.specs.Entry.{entry}
+use Rattle.entry.specs.Entry.{entry}
 use Rattle.steps.specs.Window.{Within, windowOf, oldestOf}
 use Rattle.steps.specs.Step.{Stepped, anyRule, sending}
 use Rattle.steps.proofs.Windows.{window, window-cons, window-none}

@@ -11,6 +11,7 @@ use Rattle.model.specs.Totals.{mostHeldFrom}
 use Rattle.model.specs.Course.{Policy, course, first}
 use Rattle.model.specs.Answers.{ofRun}
 use Rattle.model.specs.Calls.{Outcome}
+use Rattle.totals.specs.Totals.{ValuesFit}
 use Rattle.laws.proofs.Entered.{Sized, recorded}
 use Rattle.laws.proofs.WellFormed.{WellFormed}
 use Rattle.laws.proofs.Held.{mostQueue}
@@ -23,7 +24,7 @@ pub record Ready {S : Type 0} (P : Policy S) (s : S) (slots values : List ℕ) (
   pub same : length values ≡ length slots
   pub few : length slots ≤ recordLimits .packets
   pub slots-fit : (k : ℕ) → k < length slots → getD slots k 0 ≤ recordLimits .slot
-  pub values-fit : (k : ℕ) → k < length values → getD values k 0 ≤ recordLimits .value
+  pub values-fit : ValuesFit values
   pub sized : Sized (length slots) lists
   pub short : mostQueue P first s (arrivals slots values) ≤ portLimits .room
   pub formed : WellFormed slots values (course P first s (arrivals slots values))

@@ -8,9 +8,9 @@ use lib.ListN.{length}
 use lib.Dec.{eqb, leb, ltb}
 use Rattle.steps.specs.declared.Window.{Window}
 
-abbrev pub Guarded : Bool → Type 0 → Type 0 → Type 0
-Guarded true passed failed = passed
-Guarded false passed failed = failed
+pub record Guarded (test : Bool) (Passed Failed : Type 0) : Type 0 where
+  pub passed : test ≡ true → Passed
+  pub failed : test ≡ false → Failed
 
 -- a window lies within its two lists, which are equally long
 unfoldable pub liesWithin : Window → List ℕ → List ℕ → Bool

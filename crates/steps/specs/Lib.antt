@@ -1,8 +1,6 @@
-pub mod Entry
 pub mod Window
 pub mod Step
 pub mod Guarded
 pub mod Places
 pub mod Run
-pub mod Totals
 pub mod Calls

@@ -1,12 +1,10 @@
-// What every run on a trace is made of: its queue, an arrival, the ends of slots, the record's entries and the totals. What a run needs of these is
+// What every run on a trace is made of: its queue, an arrival and the ends of slots. What a run needs of these is
 // public and takes all input; the rest is private.
 use port::Port;
 
-pub mod entry;
 mod held;
 pub mod moves;
 mod step;
-pub mod totals;
 
 // The queue of a trace run: the entries from `head` up to `tail` of two lent lists, numbers and values, oldest first. Nothing counts beside it: what is
 // held is what stands there.

@@ -4,7 +4,7 @@ ghost use mathlib.Core.Path.{_≡_};
 ghost use mathlib.Core.List.{[], _∷_, _++_};
 ghost use Rattle.model.specs.declared.SlotAnswer.the-variants.{Idle};
 ghost use Rattle.queue.specs.Choose.{ruleOf};
-ghost use Rattle.steps.specs.Entry.{lists};
+ghost use Rattle.entry.specs.Entry.{lists};
 ghost use Rattle.steps.specs.Window.{windowOf, Holds, oldestOf};
 ghost use Rattle.steps.specs.Step.{Stepped, arrival, arriving, sending};
 ghost use Rattle.steps.specs.Guarded.{Guarded, liesWithin, hasPlace, Unmoved};
@@ -16,7 +16,8 @@ use model::Slot;
 use model::SlotAnswer;
 use queue::Rule;
 
-fn lies_within(numbers: &[u32], values: &[u32], w: Window) -> bool
+// Whether a window lies within its two lists, which are equally long.
+pub fn lies_within(numbers: &[u32], values: &[u32], w: Window) -> bool
     ensures { λ r. ⌜ r ≡ liesWithin w (now (numbers .entry)) (now (values .entry)) ⌝ }
 {
     if w.tail < w.head {

@@ -2,14 +2,14 @@
 ghost use Prim.Native.Nat.{_+_, _-_, _<_};
 ghost use lib.ListN.{length};
 ghost use Rattle.queue.specs.Choose.{ruleOf, applied};
-ghost use Rattle.steps.specs.Entry.{lists};
+ghost use Rattle.entry.specs.Entry.{lists};
 ghost use Rattle.steps.specs.Window.{windowOf, Within};
 ghost use Rattle.steps.specs.Step.{Stepped, arrival, arriving, sending};
 use crate::Window;
-use crate::entry::enter;
 use crate::held::hold;
 use crate::held::lose;
 use crate::held::oldest;
+use entry::enter;
 use model::Fate;
 use model::LossKind;
 use model::Packet;

@@ -12,7 +12,7 @@ use lib.Dec.{leb, ltb, eqb}
 use borrow.Author.Tests.{ltb-true, ltb-false, leb-true, leb-false, eqb-true, eqb-false, le-leb, lt-leb, eq-eqb, ne-eqb}
 use Rattle.model.specs.Limits.{within}
 use Rattle.laws.proofs.Cases.{eqb-cases, cond-cases}
-use Rattle.trace.proofs.Accepted.{within-to}
+use Rattle.checks.proofs.Tests.{within-to}
 use Rattle.text.specs.Fields.{quote, same, allDigits, valueFrom, Closed as Closing, «open», closed, behind, upToQuote, insideOr, heldIn}
 use Rattle.text.specs.declared.field.Stage.{Stage}
 use Rattle.text.specs.declared.field.Stage.the-variants.{Fresh, Bare, Open, Closed, Bad}

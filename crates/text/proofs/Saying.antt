@@ -16,9 +16,9 @@ use Rattle.model.specs.Packets.{arrivals}
 use Rattle.model.specs.Record.{Lists, rows}
 use Rattle.model.specs.Answers.{causeNumber}
 use Rattle.model.specs.Calls.{Outcome, pgCall}
-use Rattle.steps.specs.Entry.{lists}
+use Rattle.entry.specs.Entry.{lists}
 use Rattle.steps.specs.Calls.{outcome}
-use Rattle.steps.proofs.Answering.{cause-refuses}
+use Rattle.trace.proofs.Laws.{cause-refuses}
 use Rattle.text.specs.Input.{trace}
 use Rattle.text.specs.Output.{recordHeader, rowLines, refusalText}
 use Rattle.text.specs.Bench.{benchRoom, benchBeta, saidOf, outputBy}

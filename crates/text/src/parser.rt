@@ -11,9 +11,9 @@ use crate::field::Kind;
 use crate::field::Stage;
 use crate::output::put_refusal;
 use crate::run::run;
+use entry::put;
 use model::Cause;
 use model::Record;
-use steps::entry::put;
 
 // The header's two names.
 const SLOT: [u8; 4] = *b"slot";

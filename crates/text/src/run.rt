@@ -4,7 +4,7 @@ ghost use Prim.Native.Nat.{_≤_};
 ghost use lib.ListN.{length};
 ghost use Rattle.model.specs.Limits.{recordLimits};
 ghost use Rattle.model.specs.Calls.{pgCall};
-ghost use Rattle.steps.specs.Entry.{lists};
+ghost use Rattle.entry.specs.Entry.{lists};
 ghost use Rattle.text.specs.Input.{trace};
 ghost use Rattle.text.specs.Bench.{benchRoom, benchBeta, saidOf, outputBy};
 ghost use Rattle.text.specs.Writing.{Wrote, SameLengths};

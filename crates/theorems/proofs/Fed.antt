@@ -6,7 +6,7 @@ use mathlib.Core.Path.{_≡_, refl, sym, ap, ap₂, subst, _∙_}
 use mathlib.Core.Bool.{true}
 use mathlib.Core.List.{List, [], _∷_, _++_}
 use lib.ListN.{length, getD}
-use borrow.Author.Tests.{lt-ltb}
+use borrow.Author.Tests.{lt-ltb, not-false}
 use Rattle.model.specs.declared.Slot.{Slot}
 use Rattle.model.specs.declared.Packet.{Packet}
 use Rattle.model.specs.declared.PacketNumber.{PacketNumber}
@@ -28,7 +28,9 @@ use Rattle.port.proofs.Holding.{queue-held}
 use Rattle.port.proofs.Calls.{making-done, slot-done}
 use Rattle.port.proofs.Sound.{made-sound, slot-keeps, arrival-keeps}
 use Rattle.laws.proofs.Room.{roomy-pg}
-use Rattle.trace.proofs.Accepted.{both, shut-out, accepted, within-to}
+use Rattle.checks.proofs.Tests.{within-to}
+use Rattle.laws.proofs.FirstFault.{orElse-zero, verdictIf-zero}
+use Rattle.laws.proofs.Accepted.{accepted}
 use Rattle.theorems.specs.Fed.{endsFed, fedFrom, told, PortDecidesAsPG}
 
 -- what a port keeps when it is made to hold a queue
@@ -174,11 +176,11 @@ made-carries : (slots values : List ℕ) (room : ℕ) (beta : Beta) (lists : Lis
     → Carries room beta 0 [] (makeCall room beta .port)
 unfolding pgRefusal packetsOf
 made-carries slots values room beta lists e =
-    let one = both (lengthsRefusal slots values lists) _ e in
-    let two = both (packetsRefusal slots) _ (one .other) in
-    let three = both (roomRefusal room) _ (two .other) in
-    let four = both (betaRefusal beta) _ (three .other) in
-    let done = making-done room beta (shut-out (roomOk room) 2 0 (three .one)) (shut-out (betaOk beta) 3 0 (four .one)) in
+    let one = orElse-zero (lengthsRefusal slots values lists) _ e in
+    let two = orElse-zero (packetsRefusal slots) _ (one .1) in
+    let three = orElse-zero (roomRefusal room) _ (two .1) in
+    let four = orElse-zero (betaRefusal beta) _ (three .1) in
+    let done = making-done room beta (not-false _ (verdictIf-zero _ 2 0 (three .0))) (not-false _ (verdictIf-zero _ 3 0 (four .0))) in
     let is-made : makeCall room beta .reply .number ≡ 0 = ap (λ (o : PortOutcome). o .reply .number) (sym done) in
     subst (Carries room beta 0 []) (ap (λ (o : PortOutcome). o .port) done)
     (record {
@@ -194,5 +196,5 @@ pub port-decides-as-pg : PortDecidesAsPG
 unfolding pgRefusal
 port-decides-as-pg slots values room beta lists e =
     let T = accepted (betaRefusal beta) valueOk slots values room lists e in
-    fed-same room beta 0 first [] (makeCall room beta .port) slots values (made-carries slots values room beta lists e) (T .values-length)
-    (λ k h. T .packets .taken k (rw (T .values-length) at h)) (omega (arith, T .few))
+    fed-same room beta 0 first [] (makeCall room beta .port) slots values (made-carries slots values room beta lists e) (T .lengths)
+    (λ k h. T .packets .taken k (rw (T .lengths) at h)) (omega (arith, T .few))

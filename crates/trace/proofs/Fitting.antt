@@ -9,12 +9,14 @@ use native.Mathlib.Omega.{arith}
 use borrow.Author.Tests.{le-leb, ltb-false, eqb-true, eqb-false}
 use Rattle.model.specs.Limits.{recordLimits, within}
 use Rattle.model.specs.Packets.{arrivalsFrom}
+use Rattle.model.specs.Port.{all}
 use Rattle.model.specs.Rules.{clear, orElse}
 use Rattle.model.specs.Refusals.{slotOk, valueOk, packetRefusal, packetRefusalFrom}
+use Rattle.checks.proofs.Tests.{all-each}
 use Rattle.trace.specs.declared.Values.{Values}
 use Rattle.trace.specs.declared.Values.the-variants.{InRange}
 use Rattle.trace.specs.Checked.{okOf}
-use Rattle.trace.specs.Fitting.{SlotsFit, ValuesFit}
+use Rattle.trace.specs.Fitting.{SlotsFit}
 
 -- both of two tests failed to find anything
 left-none : (a b : Bool) → a || b ≡ false → a ≡ false
@@ -36,13 +38,9 @@ walk-clear ok before n (slot ∷ slots) (value ∷ values) l s v =
     rw (s 0 (omega arith), v 0 (omega arith))
     (walk-clear ok slot (suc n) slots values (omega arith) (λ k h. s (suc k) (suc-le-suc h)) (λ k h. v (suc k) (suc-le-suc h)))
 
-none-refused : (slots values : List ℕ) → length values ≡ length slots → SlotsFit slots (length slots) → ValuesFit values (length values)
-    → packetRefusal valueOk slots values ≡ clear
-none-refused slots values l s v = walk-clear valueOk 0 1 slots values l s v
-
 pub plain-clear : {taken : Values} (slots values : List ℕ) → taken ≡ InRange → length values ≡ length slots → SlotsFit slots (length slots)
-    → ValuesFit values (length values) → packetRefusal (okOf taken) slots values ≡ clear
-plain-clear slots values is l s v = rw is (none-refused slots values l s v)
+    → all valueOk values ≡ true → packetRefusal (okOf taken) slots values ≡ clear
+plain-clear slots values is l s v = rw is (walk-clear valueOk 0 1 slots values l s (all-each valueOk values v))
 
 -- where a test says no, nothing is claimed
 pub no-claim : {P : Type 0} → false ≡ true → P
@@ -70,19 +68,5 @@ slots-more slots i last {bad} e before is none =
       le-leb (getD slots i 0) (recordLimits .slot) (ltb-false _ _ (right-none (bad || ltb (getD slots i 0) 1) _ three)),
       ← e,
       le-leb last (getD slots i 0) (ltb-false _ _ (right-none (bad || ltb (getD slots i 0) 1 || ltb (recordLimits .slot) (getD slots i 0)) _ all)),
-    )
-    refl)
-
-pub values-more : (values : List ℕ) (i : ℕ) {bad bad′ : Bool} → (bad ≡ false → ValuesFit values i)
-    → bad′ ≡ (bad || ltb (getD values i 0) 1 || ltb (recordLimits .value) (getD values i 0))
-    → bad′ ≡ false → ValuesFit values (i + 1)
-unfolding within
-values-more values i {bad} before is none =
-    let all = sym is ∙ none in
-    let two = left-none (bad || ltb (getD values i 0) 1) _ all in
-    more (λ (k : ℕ). valueOk (getD values k 0) ≡ true) i (before (left-none bad _ two))
-    (rw (
-      le-leb 1 (getD values i 0) (ltb-false _ _ (right-none bad _ two)),
-      le-leb (getD values i 0) (recordLimits .value) (ltb-false _ _ (right-none (bad || ltb (getD values i 0) 1) _ all)),
     )
     refl)

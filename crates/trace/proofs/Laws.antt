@@ -6,10 +6,13 @@ use mathlib.Core.Bool.{Bool, true, false, _&&_}
 use mathlib.Core.List.{List}
 use lib.ListN.{length, getD, drop, drop-of-length-le}
 use lib.Seq.{drop-cons}
-use lib.Dec.{leb}
+use lib.Dec.{leb, eqb}
 use native.Mathlib.Omega.{arith}
 use native.Mathlib.Numerals.{add-one}
 use Rattle.model.specs.declared.Slot.{Slot}
+use Rattle.model.specs.declared.Cause.{Cause}
+use Rattle.model.specs.declared.Cause.the-variants as causes
+use Rattle.model.specs.Answers.{causeNumber}
 use Rattle.model.specs.Packets.{arrivalsFrom}
 use Rattle.model.specs.Rules.{Verdict, clear, orElse}
 use Rattle.model.specs.Limits.{recordLimits}
@@ -19,6 +22,7 @@ use Rattle.trace.specs.declared.Values.the-variants.{InRange, LoOrHi}
 use Rattle.model.specs.Record.{Lists}
 use Rattle.trace.specs.Checked.{okOf, lengthsEqual}
 use borrow.Author.Tests.{eqb-true}
+use Rattle.checks.proofs.Tests.{left-part}
 
 -- a call takes no value that is out of range
 pub refuses : (taken : Values) (v : ℕ) → valueOk v ≡ false → okOf taken v ≡ false
@@ -81,15 +85,18 @@ order own ok slots values room lists =
       by-none = λ a b c d. rw (a, b, c, d);
     }
 
--- the parts of a test
-pub left-part : (a b : Bool) → a && b ≡ true → a ≡ true
-left-part true b e = refl
-left-part false b e = e
-
-pub right-part : (a b : Bool) → a && b ≡ true → b ≡ true
-right-part true b e = e
-right-part false b e = absurd (let z : _≡_ {A = ℕ} 0 1 = cc in omega arith)
-
 -- equal lengths, of which that of the values is the first
 pub values-length : (slots values : List ℕ) (lists : Lists) → lengthsEqual slots values lists ≡ true → length values ≡ length slots
 values-length slots values lists e = eqb-true _ _ (left-part _ _ (left-part _ _ (left-part _ _ e)))
+
+-- a refusal's number is not 0
+pub cause-refuses : (cause : Cause) → eqb (causeNumber cause) 0 ≡ false
+cause-refuses causes.Lengths = refl
+cause-refuses causes.Packets = refl
+cause-refuses causes.Room = refl
+cause-refuses causes.Parameters = refl
+cause-refuses causes.Slot = refl
+cause-refuses causes.Value = refl
+cause-refuses causes.Spent = refl
+cause-refuses causes.Unsound = refl
+cause-refuses causes.Text = refl

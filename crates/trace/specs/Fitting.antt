@@ -4,12 +4,8 @@ use mathlib.Core.Path.{_≡_}
 use mathlib.Core.Bool.{true}
 use mathlib.Core.List.{List, _∷_}
 use lib.ListN.{getD}
-use Rattle.model.specs.Refusals.{slotOk, valueOk}
+use Rattle.model.specs.Refusals.{slotOk}
 
 -- each of the first i slots is in range and not below the one before, which for the first is 0
 abbrev pub SlotsFit : List ℕ → ℕ → Type 0
 SlotsFit slots i = (k : ℕ) → k < i → slotOk (record { 0 = getD (0 ∷ slots) k 0 }) (record { 0 = getD slots k 0 }) ≡ true
-
--- each of the first i values is in range
-abbrev pub ValuesFit : List ℕ → ℕ → Type 0
-ValuesFit values i = (k : ℕ) → k < i → valueOk (getD values k 0) ≡ true

@@ -5,7 +5,9 @@ ghost use lib.ListN.{length};
 ghost use Rattle.model.specs.Rules.{clear};
 ghost use Rattle.model.specs.Refusals.{unless, markingOk, slotOk, packetRefusal, traceRefusal, plainRefusal, pgRefusal, mfRefusal};
 ghost use Rattle.trace.specs.Checked.{verdictOf, listsOf, markingOf, okOf, lengthsEqual, Lengths};
-ghost use Rattle.trace.specs.Fitting.{SlotsFit, ValuesFit};
+ghost use Rattle.trace.specs.Fitting.{SlotsFit};
+use checks::value_ok;
+use checks::values_ok;
 use model::Beta;
 use model::Cause;
 use model::Record;
@@ -13,7 +15,6 @@ use model::Refusal;
 use model::Slot;
 use port::ranges::beta_ok;
 use port::ranges::room_ok;
-use port::ranges::value_ok;
 
 // What the test of a trace answers.
 pub enum Checked {
@@ -112,20 +113,6 @@ fn slots_fit(slots: &[u32]) -> bool
     !bad
 }
 
-// Whether all values are in range.
-fn values_fit(values: &[u32]) -> bool
-    ensures { λ r. ⌜ (r ≡ true → ValuesFit (now (values .entry)) (length (now (values .entry)))) ⌝ }
-{
-    let mut bad = false;
-    let mut i = 0;
-    while i < values.len() {
-        let value = values[i];
-        bad = bad | (value < 1) | (Record::VALUE < value);
-        i += 1;
-    }
-    !bad
-}
-
 // Whether it is plain that no packet is refused. MF's values are left to the walk.
 fn all_fit(slots: &[u32], values: &[u32], taken: Values) -> bool
     requires { ⌜ Lengths (now slots) (now values) ⌝ }
@@ -136,7 +123,7 @@ fn all_fit(slots: &[u32], values: &[u32], taken: Values) -> bool
             if !slots_fit(slots) {
                 return false;
             }
-            values_fit(values)
+            values_ok(values)
         }
         Values::LoOrHi(_, _) => false,
     }

@@ -10,10 +10,9 @@ use Rattle.audit.specs.declared.Swept.{Swept}
 use Rattle.model.specs.Rules.{Verdict, clear}
 use Rattle.audit.proofs.Answer.{countable, totals-are, on-refused, on-faulty, on-passed}
 use Rattle.model.specs.Packets.{arrivals}
-use Rattle.trace.specs.Tested.{Tested}
+use Rattle.laws.proofs.Accepted.{Accepted, accepted}
 use Rattle.audit.proofs.audit.Statement.{statement}
 use Rattle.audit.proofs.Kept.{bufferOf}
-use Rattle.trace.proofs.Accepted.{accepted}
 use Rattle.model.specs.Record.{Lists, rows}
 
 abbrev start : tie.After-plain → tie.Start
@@ -28,7 +27,7 @@ passed : (c : tie.After-enum-told) → let p = c .before .before in let a = star
 passed c = ap verdictOf (sym (c .enum-told .given .1)) ∙ c .before .before .plain .ensures
 
 tested : (c : tie.After-enum-told) → let p = c .before .before in let a = start p .args in
-    Tested valueOk (a .slots .now) (a .values .now) (a .room) (lists p)
+    Accepted valueOk (a .slots .now) (a .values .now) (a .room) (lists p)
 unfolding plainRefusal
 tested c =
     let p = c .before .before in

@@ -2,10 +2,11 @@
 use borrow.Author.Needs.{needs}
 use native.Mathlib.Omega.{arith}
 use mathlib.Core.Path.{sym, ap, _∙_}
-use Rattle.audit.specs.Rows.{rowOf}
+use Rattle.faults.specs.Faults.{rowOf}
 use Rattle.audit.proofs.leave_of.Tie as tie
 use Rattle.model.specs.Record.{fateNumber}
-use Rattle.audit.proofs.Fates.{by-test, by-range, leave-test}
+use Rattle.audit.proofs.Fates.{leave-test}
+use Rattle.faults.proofs.Fates.{by-test, by-range}
 use Rattle.model.specs.declared.Fate.the-variants.{Sent, Rejected, PushedOut, Preempted, Flushed}
 use Rattle.audit.proofs.leave_of.Statement.{statement}
 

@@ -7,12 +7,13 @@ use mathlib.Core.List.{List}
 use Prim.Native.Nat.{ℕ, _-_, _≤_, _<_}
 use native.Mathlib.Omega.{arith}
 use native.Mathlib.Numerals.{add-one}
-use Rattle.audit.specs.Sweep.{foundOf, entryFault}
+use Rattle.faults.specs.Faults.{foundOf, entryFault}
 use Rattle.audit.proofs.Kept.{Kept, kept-start, kept-end, turn-outside}
 use Rattle.audit.proofs.Turn as turn
-use Rattle.audit.specs.Rows.{rowOf, rowAt, Reads}
+use Rattle.audit.specs.Rows.{rowAt, Reads}
+use Rattle.faults.specs.Faults.{rowOf}
 use Rattle.audit.specs.declared.Read.{Read}
-use Rattle.audit.specs.declared.Found.{Found}
+use Rattle.faults.specs.declared.Found.{Found}
 use Rattle.audit.proofs.sweep.Tie as tie
 use Rattle.model.specs.Answers.{faultNumber}
 use Rattle.audit.proofs.sweep.Statement.{statement}
@@ -21,7 +22,7 @@ use Rattle.model.specs.Record.{Lists, Row}
 use Rattle.audit.proofs.Turn.{Turn}
 use Rattle.model.specs.Rules.{clear, verdictIf}
 use Rattle.trace.specs.Checked.{listsOf}
-use Rattle.audit.specs.declared.Entry.{Entry}
+use Rattle.faults.specs.declared.Entry.{Entry}
 
 abbrev Inv-loop : tie.InvT-loop
 Inv-loop slots values room fates whens bys leaving₀ held₀ most₀ last₀ i₀ leaving held most last i =
@@ -106,10 +107,10 @@ entry-at-requires c κs =
     let t = start (c .before) .pre in
     record {
       in-slots = omega arith;
-      in-values = omega (arith, t .values-length);
-      in-fates = omega (arith, t .fates-length);
-      in-whens = omega (arith, t .whens-length);
-      in-bys = omega (arith, t .bys-length);
+      in-values = omega (arith, t .lengths);
+      in-fates = omega (arith, t .sized .fates);
+      in-whens = omega (arith, t .sized .whens);
+      in-bys = omega (arith, t .sized .bys);
       few = omega (arith, t .few);
     }
 
@@ -162,7 +163,7 @@ last-of-requires c κs = search needs
 
 leave-of-requires : tie.Need-leave-of-requires Inv-loop μ-loop
 leave-of-requires c κs = (
-  start (head (found (c .before))) .pre .packets .rising,
+  start (head (found (c .before))) .pre .packets .never-down,
   turn.by-right (at-turn (found (c .before))) (clear-here (c .before)),
 )
 

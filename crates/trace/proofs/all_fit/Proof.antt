@@ -1,4 +1,5 @@
 -- `trace::all_fit` meets its contract: where all slots and all values fit no packet is refused.
+use mathlib.Core.Path.{sym, _∙_}
 use borrow.Author.Tests.{not-false}
 use Rattle.trace.proofs.Fitting.{plain-clear, no-claim}
 use borrow.Author.Needs.{needs}
@@ -14,8 +15,8 @@ slots-fit-requires c κs = search needs
 returns : tie.Need-returns
 returns c = no-claim
 
-values-fit-requires : tie.Need-values-fit-requires
-values-fit-requires c κs = search needs
+values-ok-requires : tie.Need-values-ok-requires
+values-ok-requires c κs = search needs
 
 enum-told-2 : tie.Need-enum-told-2
 enum-told-2 c = search needs
@@ -24,7 +25,7 @@ returns-2 : tie.Need-returns-2
 returns-2 c =
     let slots = c .before .before in
     let start = slots .before .before .before .before .before in
-    λ e. plain-clear (start .args .slots .now) (start .args .values .now) (slots .before .enum-told .given .1) (start .pre .equal) (slots .slots-fit .ensures (not-false _ (c .before .if1 .left))) (c .values-fit .ensures e)
+    λ e. plain-clear (start .args .slots .now) (start .args .values .now) (slots .before .enum-told .given .1) (start .pre .equal) (slots .slots-fit .ensures (not-false _ (c .before .if1 .left))) (sym (c .values-ok .ensures) ∙ e)
 
 returns-3 : tie.Need-returns-3
 returns-3 c = no-claim
@@ -36,7 +37,7 @@ all-fit-spec =
     enum-told
     slots-fit-requires
     returns
-    values-fit-requires
+    values-ok-requires
     enum-told-2
     returns-2
     returns-3)

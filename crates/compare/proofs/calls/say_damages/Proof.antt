@@ -1,16 +1,14 @@
--- `compare::calls::say_damages` is safe and ends: the three lists keep their lengths, and 3 - i falls.
+-- `compare::calls::say_damages` is safe and ends: nothing has to hold from turn to turn, and 3 - i falls.
 use borrow.Author.Needs.{needs}
 use Prim.Native.Nat.{_-_}
-use lib.ListN.{length}
-use mathlib.Core.Path.{_≡_}
 use Rattle.compare.proofs.calls.say_damages.Statement.{statement}
 use Rattle.compare.proofs.calls.say_damages.Tie as tie
 
 abbrev Inv-loop : tie.InvT-loop
-Inv-loop sum₀ source₀ c case slots values fates₀ whens₀ bys₀ i₀ sum source fates whens bys i = (length fates ≡ length fates₀) × (length whens ≡ length whens₀) × (length bys ≡ length bys₀)
+Inv-loop sum₀ source₀ c case slots values i₀ sum source i = Unit {0}
 
 abbrev μ-loop : tie.MeasureT-loop
-μ-loop sum₀ source₀ c case slots values fates₀ whens₀ bys₀ i₀ sum source fates whens bys i = 3 - i
+μ-loop sum₀ source₀ c case slots values i₀ sum source i = 3 - i
 
 returns : tie.Need-returns Inv-loop μ-loop
 returns c = search needs
@@ -33,15 +31,6 @@ loop-less c = search needs
 loop-again : tie.Need-loop-again Inv-loop μ-loop
 loop-again c = search needs
 
-same-length : tie.Need-same-length Inv-loop μ-loop
-same-length c = search needs
-
-same-length-2 : tie.Need-same-length-2 Inv-loop μ-loop
-same-length-2 c = search needs
-
-same-length-3 : tie.Need-same-length-3 Inv-loop μ-loop
-same-length-3 c = search needs
-
 returns-3 : tie.Need-returns-3 Inv-loop μ-loop
 returns-3 c = search needs
 
@@ -58,7 +47,4 @@ say-damages-spec =
     add-i
     loop-less
     loop-again
-    same-length
-    same-length-2
-    same-length-3
     returns-3)

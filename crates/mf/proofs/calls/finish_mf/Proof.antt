@@ -3,13 +3,13 @@ use mathlib.Core.Path.{sym, ap}
 use mathlib.Core.List.{[]}
 use lib.Seq.{length-take-le}
 use Rattle.model.specs.Limits.{recordLimits}
-use Rattle.mf.specs.Mark.{beside}
+use Rattle.marks.specs.Mark.{beside}
 use Rattle.steps.proofs.Places.{first-zeros}
 use lib.ListN.{length}
 use Rattle.model.specs.Policies.MF.{mfPolicy, unmarked}
 use Rattle.trace.specs.Checked.{markingOf}
-use Rattle.steps.specs.Entry.{lists}
-use Rattle.steps.proofs.Answering.{all-written, countable, answered}
+use Rattle.entry.specs.Entry.{lists}
+use Rattle.steps.proofs.Answering.{finished}
 use borrow.Author.Needs.{needs}
 use Rattle.mf.proofs.calls.finish_mf.Statement.{statement}
 use Rattle.mf.proofs.calls.finish_mf.Tie as tie
@@ -20,14 +20,14 @@ array-borrow-prefix-marks c = search needs
 slice-aggregate-run-mf : tie.Need-slice-aggregate-run-mf
 slice-aggregate-run-mf c =
     let start = c .before .before .before .before .before .before in
-    sym (length-take-le (length (start .args .slots .now)) _ (start .pre .0 .few))
+    sym (length-take-le (length (start .args .slots .now)) _ (start .pre .few))
 
 run-mf-requires : tie.Need-run-mf-requires
 run-mf-requires c κs =
     let start = c .before .before .before .before .before .before .before .before .before in
-    let R = start .pre .0 in
+    let R = start .pre in
     let n = length (start .args .slots .now) in
-    (record { same = R .same; few = R .few; slots-fit = R .slots-fit; short = R .short }, (start .pre .1, ap (beside []) (first-zeros n (recordLimits .packets) (R .few))))
+    (record { same = R .same; few = R .few; slots-fit = R .slots-fit; short = R .short }, ap (beside []) (first-zeros n (recordLimits .packets) (R .few)))
 
 totals-requires : tie.Need-totals-requires
 totals-requires c κs = search needs
@@ -46,12 +46,10 @@ returns c =
     let start = c .before .before .before .before .before .before .before .before .before .before .before .before .before .before .before .before .before .before .before in
     let a = start .args in
     let done = c .before .before .before .before .before .before .before .before .before .run-mf in
-    let P = mfPolicy (a .room) (markingOf (a .lo) (a .hi) (a .r)) (a .slots .now) in
-    let s = unmarked (length (a .slots .now)) in
-    let after = lists (done .last .1 .1 .1 .1 .1 .1 .1 .0) (done .last .1 .1 .1 .1 .1 .1 .1 .1 .0) (done .last .1 .1 .1 .1 .1 .1 .1 .1 .1 .0) in
-    let written = all-written P s (a .slots .now) (a .values .now) (lists (a .fates .now) (a .whens .now) (a .bys .now)) (start .pre .0) after (done .ensures .written) in
-    answered P s (a .slots .now) (a .values .now) (lists (a .fates .now) (a .whens .now) (a .bys .now)) (start .pre .0) after written
-    (done .result) (done .ensures .longest) (c .totals .result) (c .totals .ensures .counted (countable P s (a .slots .now) (a .values .now) (lists (a .fates .now) (a .whens .now) (a .bys .now)) (start .pre .0) after written))
+    finished (mfPolicy (a .room) (markingOf (a .lo) (a .hi) (a .r)) (a .slots .now)) (unmarked (length (a .slots .now))) (a .slots .now) (a .values .now)
+    (lists (a .fates .now) (a .whens .now) (a .bys .now)) (start .pre)
+    (lists (done .last .1 .1 .1 .1 .1 .1 .1 .0) (done .last .1 .1 .1 .1 .1 .1 .1 .1 .0) (done .last .1 .1 .1 .1 .1 .1 .1 .1 .1 .0))
+    (done .result) (done .ensures) (c .totals .result) (c .totals .ensures)
 
 pub finish-mf-spec : {M : Type 1} → statement M
 finish-mf-spec =

@@ -4,7 +4,7 @@ use Rattle.model.specs.Calls.{ran, mfCall}
 use Rattle.model.specs.Refusals.{mfRefusal}
 use Rattle.model.specs.Policies.MF.{mfRun}
 use Rattle.trace.specs.Checked.{verdictOf, markingOf}
-use Rattle.steps.specs.Entry.{lists}
+use Rattle.entry.specs.Entry.{lists}
 use Rattle.steps.proofs.Answering.{refused, not-refused}
 use Rattle.mf.proofs.Ready.{mf-ready}
 use borrow.Author.Needs.{needs}

@@ -1,10 +1,10 @@
 -- The ends of slots make no queue longer, so there is a place for the arrival.
 use Rattle.trace.specs.Checked.{markingOf}
-use Rattle.steps.specs.Entry.{lists}
+use Rattle.entry.specs.Entry.{lists}
 use Rattle.steps.specs.Window.{windowOf}
 use Rattle.steps.specs.Step.{arrival}
 use Rattle.mf.proofs.RunningMF.{ended-free, turned}
-use Rattle.steps.proofs.Guarding.{passed, free-place}
+use Rattle.steps.proofs.Guarding.{within-lies, free-place}
 use borrow.Author.Needs.{needs}
 use Rattle.mf.proofs.mf.take.Statement.{statement}
 use Rattle.mf.proofs.mf.take.Tie as tie
@@ -38,14 +38,15 @@ returns c =
     let start = c .before .before .before .before .before .before .before .before .before .before .before .before .before .before .before .before .before .before .before .before .before .before .before .before .before .before .before .before .before .before .before .before .before .before .before .before .before .before .before .before .before .before in
     let a = start .args in
     let ended = c .before .before .before .before .before .before .before .before .before .before .before .before .before .before .before .before .before .before .before .before .before .before .before .before .before .before .before .before .end-slots in
+    let done = ended .ensures .passed (within-lies (a .w) (a .numbers .now) (a .values .now) (start .pre .0)) in
     let arrived = c .before .before .before .before .before .before .before .before .before .before .arrive in
     let free =
     ended-free (a .room) (markingOf (a .lo) (a .hi) (a .r)) (a .slots .now) (a .before) (arrival (a .slot) (a .p)) (windowOf (a .w) (a .numbers .now) (a .values .now)) (a .marks .now) (lists (a .fates .now) (a .whens .now) (a .bys .now))
     (lists (ended .last .1 .1 .1 .1 .0) (ended .last .1 .1 .1 .1 .1 .0) (ended .last .1 .1 .1 .1 .1 .1 .0)) (a .w) (ended .result) (a .numbers .now) (a .values .now) (ended .last .0) (ended .last .1 .0) (ended .last .1 .1 .1 .0)
-    (start .pre .0) (start .pre .1 .1) (ended .ensures) (ended .kept .1 .0) in
+    (start .pre .0) (start .pre .1) done (ended .kept .1 .0) in
     turned (a .room) (markingOf (a .lo) (a .hi) (a .r)) (a .slots .now) (a .before) (arrival (a .slot) (a .p)) (windowOf (a .w) (a .numbers .now) (a .values .now)) (a .marks .now) (lists (a .fates .now) (a .whens .now) (a .bys .now))
     (lists (ended .last .1 .1 .1 .1 .0) (ended .last .1 .1 .1 .1 .1 .0) (ended .last .1 .1 .1 .1 .1 .1 .0)) (lists (arrived .last .1 .1 .0) (arrived .last .1 .1 .1 .0) (arrived .last .1 .1 .1 .1 .0))
-    (ended .result) (arrived .result) (ended .last .0) (ended .last .1 .0) (arrived .last .0) (arrived .last .1 .0) (ended .last .1 .1 .1 .0) (ended .ensures) (passed _ _ _ (free-place (ended .result) (ended .last .0) (ended .last .1 .0) (ended .ensures .within) free) (arrived .ensures))
+    (ended .result) (arrived .result) (ended .last .0) (ended .last .1 .0) (arrived .last .0) (arrived .last .1 .0) (ended .last .1 .1 .1 .0) done (arrived .ensures .passed (free-place (ended .result) (ended .last .0) (ended .last .1 .0) (done .within) free))
 
 pub take-spec : {M : Type 1} → statement M
 take-spec =

@@ -1,26 +1,26 @@
 -- The loop of every run, under the rule of the kept packets.
-use Rattle.steps.proofs.Guarding.{passed, within-lies}
 use borrow.Author.Needs.{needs}
 use Prim.Native.Nat.{max, _-_}
-use mathlib.Core.Path.{_≡_, refl, _∙_}
+use mathlib.Core.Path.{_≡_, refl, sym, _∙_}
 use mathlib.Core.Logic.{⊎-elim}
 use native.Mathlib.Omega.{arith}
 use lib.ListN.{length}
 use Rattle.model.specs.Policies.Plan.{keptRule}
-use Rattle.steps.specs.Entry.{lists}
-use Rattle.steps.proofs.Running.{Going, going-start, going-free, going-turn, going-end}
+use Rattle.entry.specs.Entry.{lists}
+use Rattle.steps.proofs.Running.{Going, going-start, going-free}
+use Rattle.plan.proofs.Planning.{run-turn, run-end}
 use Rattle.plan.proofs.plan.run.Statement.{statement}
 use Rattle.plan.proofs.plan.run.Tie as tie
 
 abbrev Inv-loop : tie.InvT-loop
-Inv-loop slots values kept fates₀ whens₀ bys₀ numbers₀ held₀ head₀ tail₀ last₀ most₀ i₀ fates whens bys numbers held head tail last most i =
+Inv-loop slots values kept fates₀ whens₀ bys₀ numbers₀ held₀ w₀ last₀ most₀ i₀ fates whens bys numbers held w last most i =
     (length fates ≡ length fates₀)
     × (length whens ≡ length whens₀)
     × (length bys ≡ length bys₀)
-    × Going (keptRule kept) slots values (lists fates₀ whens₀ bys₀) numbers held head tail last most i (lists fates whens bys)
+    × Going (keptRule kept) slots values (lists fates₀ whens₀ bys₀) numbers held (w .head) (w .tail) (last .0) most i (lists fates whens bys)
 
 abbrev μ-loop : tie.MeasureT-loop
-μ-loop slots values kept fates₀ whens₀ bys₀ numbers₀ held₀ head₀ tail₀ last₀ most₀ i₀ fates whens bys numbers held head tail last most i =
+μ-loop slots values kept fates₀ whens₀ bys₀ numbers₀ held₀ w₀ last₀ most₀ i₀ fates whens bys numbers held w last most i =
     length slots - i
 
 loop-holds : tie.Need-loop-holds Inv-loop μ-loop
@@ -28,11 +28,12 @@ loop-holds c =
     let a = c .before .before .before .before .before .before .args in
     (refl, refl, refl, going-start (keptRule (a .kept .now)) (a .slots .now) (a .values .now) _ _ _ (search needs) (search needs))
 
-mul-slot : tie.Need-mul-slot Inv-loop μ-loop
-mul-slot c = search needs
+mul-t17 : tie.Need-mul-t17 Inv-loop μ-loop
+mul-t17 c = search needs
 
-shared-slice-read-slot : tie.Need-shared-slice-read-slot Inv-loop μ-loop
-shared-slice-read-slot c = search needs
+shared-slice-read-t20 : tie.Need-shared-slice-read-t20 Inv-loop μ-loop
+shared-slice-read-t20 c =
+    c .before .loop-test .taken
 
 add-t17 : tie.Need-add-t17 Inv-loop μ-loop
 add-t17 c = search needs
@@ -44,30 +45,31 @@ mul-t22 : tie.Need-mul-t22 Inv-loop μ-loop
 mul-t22 c = search needs
 
 shared-slice-read-t24 : tie.Need-shared-slice-read-t24 Inv-loop μ-loop
-shared-slice-read-t24 c = search needs
+shared-slice-read-t24 c =
+    rw (c .before .before .before .before .before .before .before .before .before .before .pre .0 .same) (c .before .before .loop-test .taken)
 
 slice-aggregate-take : tie.Need-slice-aggregate-take Inv-loop μ-loop
-slice-aggregate-take c = search needs
+slice-aggregate-take c =
+    sym (c .before .before .before .before .loop .inv .3 .within .same ∙ c .before .before .before .before .loop .inv .3 .places)
 
 slice-aggregate-take-2 : tie.Need-slice-aggregate-take-2 Inv-loop μ-loop
-slice-aggregate-take-2 c = search needs
+slice-aggregate-take-2 c =
+    sym (c .before .before .before .before .before .loop .inv .3 .places)
+
+shared-slice-read-take : tie.Need-shared-slice-read-take Inv-loop μ-loop
+shared-slice-read-take c =
+    rw (c .before .before .before .before .before .before .before .before .before .before .before .before .before .before .before .before .pre .1) (c .before .before .before .before .before .before .before .before .loop-test .taken)
 
 take-requires : tie.Need-take-requires Inv-loop μ-loop
 take-requires c κs =
-    let start = c .before .before .before .before .before .before .before .before .before .before .before .before .before .before .before in
-    let loop = c .before .before .before .before .before .before .before .before .loop in (
-      loop .inv .3 .within,
-      (
-        going-free (keptRule (start .args .kept .now)) (start .args .slots .now) (start .args .values .now) _ (start .pre .0) _ _ _ _ _ _ _ _ (loop .inv .3),
-        omega (arith, c .before .before .before .before .before .before .before .loop-test .taken, start .pre .1),
-      ),
-    )
+    let start = c .before .before .before .before .before .before .before .before .before .before .before .before .before .before .before .before in
+    let a = start .args in
+    let loop = c .before .before .before .before .before .before .before .before .before .loop in
+    (loop .inv .3 .within, going-free (keptRule (a .kept .now)) (a .slots .now) (a .values .now) _ (start .pre .0) _ _ _ _ _ _ _ _ (loop .inv .3))
 
-sub-if1 : tie.Need-sub-if1 Inv-loop μ-loop
-sub-if1 c = search needs
-
-sub-most : tie.Need-sub-most Inv-loop μ-loop
-sub-most c = search needs
+sub-length : tie.Need-sub-length Inv-loop μ-loop
+sub-length c =
+    c .before .before .before .before .before .before .before .before .before .take .ensures .within .ordered
 
 add-i : tie.Need-add-i Inv-loop μ-loop
 add-i c = search needs
@@ -77,56 +79,66 @@ loop-less c = search needs
 
 loop-again : tie.Need-loop-again Inv-loop μ-loop
 loop-again c =
-    let start = c .before .before .before .before .before .before .before .before .before .before .before .before .before .before .before .before .before .before .before .before .before .before .before .before .before in
-    let loop = c .before .before .before .before .before .before .before .before .before .before .before .before .before .before .before .before .before .before in
-    let taken = c .before .before .before .before .before .before .before .before .before .take in
+    let start = c .before .before .before .before .before .before .before .before .before .before .before .before .before .before .before .before .before .before .before .before .before .before .before .before .before .before .before in
+    let loop = c .before .before .before .before .before .before .before .before .before .before .before .before .before .before .before .before .before .before .before .before .loop in
+    let taken = c .before .before .before .before .before .before .before .before .before .before .take in
     let a = start .args in
-    let most : c .if1 .most ≡ max (loop .loop .most) (taken .result .tail - taken .result .head) = ⊎-elim (λ w. omega arith) (λ w. omega arith) (c .if1 .came) in (
-      taken .kept .1 .1 .0 ∙ loop .loop .inv .0,
-      taken .kept .1 .1 .1 .0 ∙ loop .loop .inv .1,
-      taken .kept .1 .1 .1 .1 .0 ∙ loop .loop .inv .2,
-      going-turn (keptRule (a .kept .now)) (a .slots .now) (a .values .now) _ (start .pre .0) _ _ (loop .loop .head) (loop .loop .tail) (loop .loop .last) (loop .loop .most)
-          (loop .loop .i) _ (loop .loop .inv .3) (c .before .before .before .before .before .before .before .before .before .before .before .before .before .before .before .before .before .loop-test .taken) (taken .result) (taken .last .0) (taken .last .1 .0) _ (c .if1 .most) (taken .ensures) (taken .kept .1 .0) most,
+    let most : c .if1 .most ≡ max (loop .most) (taken .result .tail - taken .result .head) = ⊎-elim (λ w. omega arith) (λ w. omega arith) (c .if1 .came) in (
+      taken .kept .1 .1 .0 ∙ loop .inv .0,
+      taken .kept .1 .1 .1 .0 ∙ loop .inv .1,
+      taken .kept .1 .1 .1 .1 .0 ∙ loop .inv .2,
+      run-turn (a .slots .now) (a .values .now) (a .kept .now) (lists (a .fates .now) (a .whens .now) (a .bys .now)) (start .pre .0)
+          (loop .numbers) (loop .held) (loop .w) (loop .last) (loop .most) (loop .i) (lists (loop .fates) (loop .whens) (loop .bys)) (loop .inv .3)
+          (c .before .before .before .before .before .before .before .before .before .before .before .before .before .before .before .before .before .before .before .loop-test .taken) (taken .result) (taken .last .0) (taken .last .1 .0)
+          (lists (taken .last .1 .1 .0) (taken .last .1 .1 .1 .0) (taken .last .1 .1 .1 .1 .0)) (c .if1 .most) (taken .ensures) (taken .kept .1 .0) most,
     )
 
+sub-t37 : tie.Need-sub-t37 Inv-loop μ-loop
+sub-t37 c =
+    c .before .before .loop .inv .3 .within .ordered
+
+cast-t38 : tie.Need-cast-t38 Inv-loop μ-loop
+cast-t38 c = search needs
+
+add-t39 : tie.Need-add-t39 Inv-loop μ-loop
+add-t39 c = search needs
+
 slice-aggregate-send-until : tie.Need-slice-aggregate-send-until Inv-loop μ-loop
-slice-aggregate-send-until c = search needs
+slice-aggregate-send-until c =
+    sym (c .before .before .before .before .loop .inv .3 .within .same ∙ c .before .before .before .before .loop .inv .3 .places)
 
 slice-aggregate-send-until-2 : tie.Need-slice-aggregate-send-until-2 Inv-loop μ-loop
-slice-aggregate-send-until-2 c = search needs
-
-sub-t51 : tie.Need-sub-t51 Inv-loop μ-loop
-sub-t51 c = search needs
-
-cast-t52 : tie.Need-cast-t52 Inv-loop μ-loop
-cast-t52 c = search needs
-
-add-t53 : tie.Need-add-t53 Inv-loop μ-loop
-add-t53 c = search needs
+slice-aggregate-send-until-2 c =
+    sym (c .before .before .before .before .before .loop .inv .3 .places)
 
 send-until-requires : tie.Need-send-until-requires Inv-loop μ-loop
-send-until-requires c κs = search needs
+send-until-requires c κs =
+    tt
 
 cast-result : tie.Need-cast-result Inv-loop μ-loop
 cast-result c = search needs
 
 same-length : tie.Need-same-length Inv-loop μ-loop
-same-length c = search needs
+same-length c =
+    c .before .before .before .before .before .before .send-until .kept .1 .1 .0 ∙ c .before .before .before .before .before .before .before .before .before .before .before .before .before .before .before .loop .inv .0
 
 same-length-2 : tie.Need-same-length-2 Inv-loop μ-loop
-same-length-2 c = search needs
+same-length-2 c =
+    c .before .before .before .before .before .before .send-until .kept .1 .1 .1 .0 ∙ c .before .before .before .before .before .before .before .before .before .before .before .before .before .before .before .loop .inv .1
 
 same-length-3 : tie.Need-same-length-3 Inv-loop μ-loop
-same-length-3 c = search needs
+same-length-3 c =
+    c .before .before .before .before .before .before .send-until .kept .1 .1 .1 .1 .0 ∙ c .before .before .before .before .before .before .before .before .before .before .before .before .before .before .before .loop .inv .2
 
 returns : tie.Need-returns Inv-loop μ-loop
 returns c =
-    let start = c .before .before .before .before .before .before .before .before .before .before .before .before .before .before .before .before .before .before .before .before in
-    let loop = c .before .before .before .before .before .before .before .before .before .before .before .before .before in
+    let start = c .before .before .before .before .before .before .before .before .before .before .before .before .before .before .before .before .before .before .before .before .before .before in
+    let loop = c .before .before .before .before .before .before .before .before .before .before .before .before .before .before .before .loop in
     let sent = c .before .before .before .before .before .before .send-until in
     let a = start .args in
-    going-end (keptRule (a .kept .now)) (a .slots .now) (a .values .now) _ (start .pre .0) _ _ (loop .loop .head) (loop .loop .tail) (loop .loop .last) (loop .loop .most) (loop .loop .i) _
-    (loop .loop .inv .3) (c .before .before .before .before .before .before .before .before .before .before .before .before .loop-test .left) (sent .result) _ _ refl (passed _ _ _ (within-lies _ _ _ (loop .loop .inv .3 .within)) (sent .ensures))
+    run-end (a .slots .now) (a .values .now) (a .kept .now) (lists (a .fates .now) (a .whens .now) (a .bys .now)) (start .pre .0)
+    (loop .numbers) (loop .held) (loop .w) (loop .last) (loop .most) (loop .i) (lists (loop .fates) (loop .whens) (loop .bys)) (loop .inv .3)
+    (c .before .before .before .before .before .before .before .before .before .before .before .before .before .before .loop-test .left) (sent .result) (lists (sent .last .1 .1 .0) (sent .last .1 .1 .1 .0) (sent .last .1 .1 .1 .1 .0)) _ refl (sent .ensures)
 
 pub run-spec : {M : Type 1} → statement M
 run-spec =
@@ -135,25 +147,25 @@ run-spec =
     Inv-loop
     μ-loop
     loop-holds
-    mul-slot
-    shared-slice-read-slot
+    mul-t17
+    shared-slice-read-t20
     add-t17
     cast-t20
     mul-t22
     shared-slice-read-t24
     slice-aggregate-take
     slice-aggregate-take-2
+    shared-slice-read-take
     take-requires
-    sub-if1
-    sub-most
+    sub-length
     add-i
     loop-less
     loop-again
+    sub-t37
+    cast-t38
+    add-t39
     slice-aggregate-send-until
     slice-aggregate-send-until-2
-    sub-t51
-    cast-t52
-    add-t53
     send-until-requires
     cast-result
     same-length

@@ -12,7 +12,7 @@ use Rattle.model.specs.Limits.{portLimits}
 use Rattle.model.specs.Refusals.{valueOk, roomOk, betaOk}
 use Rattle.model.specs.Port.{all, risesFrom}
 use Rattle.port.specs.State.{stateOf}
-use Rattle.port.proofs.Tests.{all-behind}
+use Rattle.checks.proofs.Tests.{all-behind}
 use Rattle.port.proofs.Whole.{values-whole, numbers-whole}
 use Rattle.port.proofs.Parts.{sound-is, room-fits}
 use Rattle.port.proofs.Port.is_sound.Statement.{statement}

@@ -1,7 +1,8 @@
 use mathlib.Core.List.{[]}
 use Rattle.model.specs.Course.{byRule}
 use Rattle.queue.specs.Choose.{ruleOf}
-use Rattle.steps.proofs.Answering.{all-written, countable, answered}
+use Rattle.entry.specs.Entry.{lists}
+use Rattle.steps.proofs.Answering.{finished}
 use borrow.Author.Needs.{needs}
 use Rattle.runs.proofs.calls.finish.Statement.{statement}
 use Rattle.runs.proofs.calls.finish.Tie as tie
@@ -26,10 +27,8 @@ returns c =
     let start = c .before .before .before .before .before .before .before .before .before .before .before .before .before .before .before .before .before in
     let a = start .args in
     let done = c .before .before .before .before .before .before .before .before .run in
-    let P = byRule (ruleOf (a .room) (a .rule)) in
-    let written = all-written P [] (a .slots .now) (a .values .now) _ (start .pre .0) _ (done .ensures .written) in
-    answered P [] (a .slots .now) (a .values .now) _ (start .pre .0) _ written
-    (done .result) (done .ensures .longest) (c .totals .result) (c .totals .ensures .counted (countable P [] (a .slots .now) (a .values .now) _ (start .pre .0) _ written))
+    finished (byRule (ruleOf (a .room) (a .rule))) [] (a .slots .now) (a .values .now) (lists (a .fates .now) (a .whens .now) (a .bys .now)) (start .pre .0)
+    (lists (done .last .1 .1 .1 .1 .0) (done .last .1 .1 .1 .1 .1 .0) (done .last .1 .1 .1 .1 .1 .1 .0)) (done .result) (done .ensures) (c .totals .result) (c .totals .ensures)
 
 pub finish-spec : {M : Type 1} → statement M
 finish-spec =

@@ -16,7 +16,7 @@ same-length-2 : tie.Need-same-length-2
 same-length-2 c = search needs
 
 returns : tie.Need-returns
-returns c = by-fail _ _ _ (sym (c .before .has-place .ensures) ∙ not-true _ (c .if1 .taken)) (record { same-window = refl; same-numbers = refl; same-values = refl }, refl)
+returns c = by-fail (sym (c .before .has-place .ensures) ∙ not-true _ (c .if1 .taken)) (record { same-window = refl; same-numbers = refl; same-values = refl }, refl)
 
 arrive-requires : tie.Need-arrive-requires
 arrive-requires c κs = let a = c .before .before .before .before .before .before .before .before .before .before .before .before .before .before .args in let place = sym (c .before .before .before .before .before .before .has-place .ensures) ∙ not-false _ (c .before .before .before .before .before .if1 .left) in (place-within (a .w) (a .numbers .now) (a .values .now) place, place-free (a .w) (a .numbers .now) (a .values .now) place)
@@ -37,7 +37,7 @@ same-length-7 : tie.Need-same-length-7
 same-length-7 c = search needs
 
 returns-2 : tie.Need-returns-2
-returns-2 c = by-pass _ _ _ (sym (c .before .before .before .before .before .before .before .before .before .before .before .before .before .before .before .before .before .has-place .ensures) ∙ not-false _ (c .before .before .before .before .before .before .before .before .before .before .before .before .before .before .before .before .if1 .left)) (c .before .before .before .before .before .before .before .before .before .before .arrive .ensures)
+returns-2 c = by-pass (sym (c .before .before .before .before .before .before .before .before .before .before .before .before .before .before .before .before .before .has-place .ensures) ∙ not-false _ (c .before .before .before .before .before .before .before .before .before .before .before .before .before .before .before .before .if1 .left)) (c .before .before .before .before .before .before .before .before .before .before .arrive .ensures)
 
 pub arrive-spec : {M : Type 1} → statement M
 arrive-spec = tie.close (tie.spec has-place-requires same-length same-length-2 returns arrive-requires same-length-3 same-length-4 same-length-5 same-length-6 same-length-7 returns-2)

@@ -16,7 +16,7 @@ same-length-2 : tie.Need-same-length-2
 same-length-2 c = search needs
 
 returns : tie.Need-returns
-returns c = by-fail _ _ _ (sym (c .before .has-place .ensures) ∙ not-true _ (c .if1 .taken)) (record { same-window = refl; same-numbers = refl; same-values = refl })
+returns c = by-fail (sym (c .before .has-place .ensures) ∙ not-true _ (c .if1 .taken)) (record { same-window = refl; same-numbers = refl; same-values = refl })
 
 hold-requires : tie.Need-hold-requires
 hold-requires c κs = let a = c .before .before .before .before .before .before .before .before .args in let place = sym (c .before .before .before .has-place .ensures) ∙ not-false _ (c .before .before .if1 .left) in (place-within (a .w) (a .numbers .now) (a .values .now) place, place-free (a .w) (a .numbers .now) (a .values .now) place)
@@ -28,7 +28,7 @@ same-length-4 : tie.Need-same-length-4
 same-length-4 c = search needs
 
 returns-2 : tie.Need-returns-2
-returns-2 c = by-pass _ _ _ (sym (c .before .before .before .before .before .before .before .before .has-place .ensures) ∙ not-false _ (c .before .before .before .before .before .before .before .if1 .left)) (c .before .before .before .before .hold .ensures)
+returns-2 c = by-pass (sym (c .before .before .before .before .before .before .before .before .has-place .ensures) ∙ not-false _ (c .before .before .before .before .before .before .before .if1 .left)) (c .before .before .before .before .hold .ensures)
 
 pub hold-spec : {M : Type 1} → statement M
 hold-spec = tie.close (tie.spec has-place-requires same-length same-length-2 returns hold-requires same-length-3 same-length-4 returns-2)

@@ -4,7 +4,7 @@ use mathlib.Core.Logic.{⊎-elim}
 use native.Mathlib.Omega.{arith}
 use borrow.Author.Needs.{needs}
 use lib.ListN.{length}
-use Rattle.steps.specs.Entry.{lists}
+use Rattle.entry.specs.Entry.{lists}
 use Rattle.steps.proofs.Sending.{Left, left-none, left-idle, left-turn}
 use Rattle.steps.proofs.step.send_until.Statement.{statement}
 use Rattle.steps.proofs.step.send_until.Tie as tie

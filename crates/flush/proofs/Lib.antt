@@ -1,0 +1,3 @@
+pub mod Flushing
+pub mod Ending
+pub mod Finishing

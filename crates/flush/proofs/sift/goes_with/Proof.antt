@@ -1,0 +1,13 @@
+-- A mark of 0 is none; any other is compared.
+use Rattle.flush.proofs.Flushing.{none-stays, marked-by}
+use Rattle.flush.proofs.sift.goes_with.Statement.{statement}
+use Rattle.flush.proofs.sift.goes_with.Tie as tie
+
+returns : tie.Need-returns
+returns c = none-stays (c .before .args .mark) (c .before .args .m) (c .if1 .taken)
+
+returns-2 : tie.Need-returns-2
+returns-2 c = marked-by (c .before .args .mark) (c .before .args .m) (c .if1 .left)
+
+pub goes-with-spec : {M : Type 1} → statement M
+goes-with-spec = tie.close (tie.spec returns returns-2)

@@ -1,0 +1,54 @@
+// The ends of slots under MF: the slot's hi packets mark, the head's mark flushes, and the head is sent.
+ghost use mathlib.Core.Path.{_≡_};
+ghost use Rattle.trace.specs.Checked.{markingOf};
+ghost use Rattle.entry.specs.Entry.{lists};
+ghost use Rattle.steps.specs.Window.{windowOf};
+ghost use Rattle.steps.specs.Guarded.{Guarded, liesWithin, Unmoved};
+ghost use Rattle.marks.specs.Mark.{beside};
+ghost use Rattle.flush.specs.Flush.{Finished, ending};
+use model::Slot;
+use steps::Window;
+use steps::moves::lies_within;
+
+mod ends;
+mod sift;
+
+// The ends of the slots from `from` on, up to slot `until`. A window that does not lie within its lists is handed back, and nothing is written.
+pub fn end_slots(
+    numbers: &mut [u32],
+    values: &mut [u32],
+    slots: &[u32],
+    marks: &mut [u32],
+    fates: &mut [u32],
+    whens: &mut [u32],
+    bys: &mut [u32],
+    w: Window,
+    room: usize,
+    lo: u32,
+    hi: u32,
+    r: usize,
+    from: Slot,
+    until: Slot,
+) -> Window
+    ensures { λ v. ⌜ Guarded (liesWithin w (now (numbers .entry)) (now (values .entry))) (Finished (ending room (markingOf lo hi r) (now (slots .entry)) from until (beside (windowOf w (now (numbers .entry)) (now (values .entry))) (now (marks .entry)))) (lists (now (fates .entry)) (now (whens .entry)) (now (bys .entry))) v (now (numbers .exit)) (now (values .exit)) (now (marks .exit)) (lists (now (fates .exit)) (now (whens .exit)) (now (bys .exit)))) (Unmoved w (now (numbers .entry)) (now (values .entry)) v (now (numbers .exit)) (now (values .exit)) × (now (marks .exit) ≡ now (marks .entry)) × (lists (now (fates .exit)) (now (whens .exit)) (now (bys .exit)) ≡ lists (now (fates .entry)) (now (whens .entry)) (now (bys .entry)))) ⌝ }
+{
+    if !lies_within(numbers, values, w) {
+        return w;
+    }
+    ends::end_slots(
+        numbers,
+        values,
+        slots,
+        marks,
+        fates,
+        whens,
+        bys,
+        w,
+        room,
+        lo,
+        hi,
+        r,
+        from,
+        until,
+    )
+}

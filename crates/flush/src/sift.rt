@@ -1,0 +1,111 @@
+// MF's flush: the held packets with a mark at most the head's go, and the others close up in order.
+ghost use mathlib.Core.Path.{_≡_};
+ghost use mathlib.Core.Bool.{not, _&&_};
+ghost use lib.Dec.{eqb, leb};
+ghost use Rattle.model.specs.Policies.MF.{headMark};
+ghost use Rattle.entry.specs.Entry.{lists};
+ghost use Rattle.steps.specs.Window.{windowOf, Within};
+ghost use Rattle.steps.specs.Step.{Stepped};
+ghost use Rattle.flush.specs.Flush.{flushing};
+use entry::enter;
+use marks::mark_of;
+use model::Fate;
+use model::Packet;
+use model::PacketNumber;
+use model::Slot;
+use steps::Window;
+
+// A packet with this mark is flushed under a head with mark m.
+fn goes_with(mark: u32, m: u32) -> bool
+    ensures { λ r. ⌜ r ≡ (not (eqb mark 0) && leb mark m) ⌝ }
+{
+    if mark == 0 {
+        return false;
+    }
+    mark <= m
+}
+
+// The head's mark, 0 for none.
+pub fn head_mark(numbers: &[u32], values: &[u32], marks: &[u32], w: Window) -> u32
+    requires { ⌜ Within w (now numbers) (now values) ⌝ }
+    ensures { λ r. ⌜ r ≡ headMark (now (marks .entry)) (windowOf w (now (numbers .entry)) (now (values .entry))) ⌝ }
+{
+    let head = w.head;
+    if head < w.tail {
+        mark_of(
+            marks,
+            Packet {
+                number: PacketNumber(numbers[head]),
+                value: values[head],
+            },
+        )
+    } else {
+        0
+    }
+}
+
+// One pass over the window: what goes is entered, what stays moves up to the packet that stays before it.
+fn sift(
+    numbers: &mut [u32],
+    values: &mut [u32],
+    marks: &[u32],
+    fates: &mut [u32],
+    whens: &mut [u32],
+    bys: &mut [u32],
+    w: Window,
+    m: u32,
+    slot: Slot,
+) -> Window
+    requires { ⌜ Within w (now numbers) (now values) ⌝ }
+    ensures { λ r. ⌜ Stepped (flushing slot m (now (marks .entry)) (windowOf w (now (numbers .entry)) (now (values .entry)))) (lists (now (fates .entry)) (now (whens .entry)) (now (bys .entry))) r (now (numbers .exit)) (now (values .exit)) (lists (now (fates .exit)) (now (whens .exit)) (now (bys .exit))) ⌝ }
+{
+    let head = w.head;
+    let tail = w.tail;
+    let mut from = head;
+    let mut to = head;
+    while from < tail {
+        let p = Packet {
+            number: PacketNumber(numbers[from]),
+            value: values[from],
+        };
+        from += 1;
+        let mark = mark_of(marks, p);
+        if goes_with(mark, m) {
+            enter(
+                fates,
+                whens,
+                bys,
+                p.number,
+                Fate::Flushed,
+                slot,
+                PacketNumber(mark),
+            );
+        } else {
+            numbers[to] = p.number.0;
+            values[to] = p.value;
+            to += 1;
+        }
+    }
+    Window { head, tail: to }
+}
+
+// The flush under a head with mark m; nothing goes under a head with none.
+pub fn flush(
+    numbers: &mut [u32],
+    values: &mut [u32],
+    marks: &[u32],
+    fates: &mut [u32],
+    whens: &mut [u32],
+    bys: &mut [u32],
+    w: Window,
+    m: u32,
+    slot: Slot,
+) -> Window
+    requires { ⌜ Within w (now numbers) (now values) ⌝ }
+    ensures { λ r. ⌜ Stepped (flushing slot m (now (marks .entry)) (windowOf w (now (numbers .entry)) (now (values .entry)))) (lists (now (fates .entry)) (now (whens .entry)) (now (bys .entry))) r (now (numbers .exit)) (now (values .exit)) (lists (now (fates .exit)) (now (whens .exit)) (now (bys .exit))) ⌝ }
+{
+    if m == 0 {
+        return w;
+    }
+    sift(numbers, values, marks, fates, whens, bys, w, m, slot)
+}

@@ -1,0 +1,42 @@
+// MF's marks: one number for each packet of the trace, that of the packet that marked it, 0 for none.
+ghost use mathlib.Core.Path.{_≡_};
+ghost use Rattle.model.specs.Policies.MF.{markOf, marksAfter};
+ghost use Rattle.trace.specs.Checked.{markingOf};
+ghost use Rattle.steps.specs.Window.{windowOf};
+ghost use Rattle.steps.specs.Guarded.{Guarded, liesWithin};
+ghost use Rattle.marks.specs.Mark.{beside};
+use entry::entry_of;
+use model::Packet;
+use model::Slot;
+use steps::Window;
+use steps::moves::lies_within;
+
+mod step;
+
+// The number of the packet that marked a packet, 0 for none.
+pub fn mark_of(marks: &[u32], p: Packet) -> u32
+    ensures { λ r. ⌜ r ≡ markOf (now (marks .entry)) p .0 ⌝ }
+{
+    entry_of(marks, p.number)
+}
+
+// The marks after a slot's arrivals; as before, where the window does not lie within its lists.
+pub fn mark(
+    numbers: &[u32],
+    values: &[u32],
+    slots: &[u32],
+    marks: &mut [u32],
+    w: Window,
+    room: usize,
+    lo: u32,
+    hi: u32,
+    r: usize,
+    slot: Slot,
+)
+    ensures { λ _. ⌜ Guarded (liesWithin w (now (numbers .entry)) (now (values .entry))) (now (marks .exit) ≡ marksAfter room (markingOf lo hi r) (now (slots .entry)) slot (beside (windowOf w (now (numbers .entry)) (now (values .entry))) (now (marks .entry)))) (now (marks .exit) ≡ now (marks .entry)) ⌝ }
+{
+    if !lies_within(numbers, values, w) {
+        return;
+    }
+    step::mark(numbers, values, slots, marks, w, room, lo, hi, r, slot);
+}
