@@ -1,14 +1,13 @@
 -- A call's answer: the totals are those of the record that was written, and a refusal or a run is what model's call says of the verdict.
 use Prim.Native.Nat.{ℕ}
 use mathlib.Core.Path.{_≡_, refl, sym, ap, ap₂, subst, _∙_}
-use mathlib.Core.Bool.{Bool, true, false}
+use mathlib.Core.Bool.{Bool, true}
 use mathlib.Core.List.{List}
 use native.Mathlib.Omega.{arith}
 use lib.ListN.{length, getD}
 use Rattle.model.specs.declared.Totals.{Totals}
 use Rattle.model.specs.declared.Refusal.{Refusal}
 use Rattle.model.specs.declared.RunAnswer.the-variants.{Ran, Refused}
-use Rattle.model.specs.Limits.{recordLimits}
 use Rattle.model.specs.Packets.{arrivals}
 use Rattle.model.specs.Record.{Entry, Lists, entered, recordOf, rows}
 use Rattle.model.specs.Rules.{Verdict, clear}

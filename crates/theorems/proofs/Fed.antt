@@ -18,7 +18,7 @@ use Rattle.model.specs.Packets.{Arrival, arrivalsFrom, slotsUntil, following}
 use Rattle.model.specs.Record.{Entry, Lists, fateNumber, lossFate, sentAt, lostTo}
 use Rattle.model.specs.Course.{Step, Decision, Decided, held, rejected, losing, entriesOf, byRule, slotEnds, course, first}
 use Rattle.model.specs.Policies.PG.{pgRule}
-use Rattle.model.specs.Refusals.{valueOk, roomOk, betaOk, lengthsRefusal, packetsRefusal, roomRefusal, betaRefusal, pgRefusal, arrivalRefusal}
+use Rattle.model.specs.Refusals.{valueOk, lengthsRefusal, packetsRefusal, roomRefusal, betaRefusal, pgRefusal, arrivalRefusal}
 use Rattle.model.specs.Rules.{orElse}
 use Rattle.model.specs.Answers.{portSays}
 use Rattle.model.specs.Port.{PortState, PortOutcome, sound, packetsOf, queueOf, holding, saysOf, nextPacket, unlessRefused, slotEnd, makeCall, arriveCall, endOfSlotCall}

@@ -1,5 +1,5 @@
 -- The sendings and the arrival are one turn of the course; a packet that finds nothing held is held under either rule.
-use mathlib.Core.Path.{_≡_, _∙_}
+use mathlib.Core.Path.{_≡_}
 use native.Mathlib.Omega.{arith}
 use lib.ListN.{length}
 use Rattle.queue.specs.Choose.{ruleOf}
