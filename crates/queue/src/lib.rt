@@ -79,10 +79,10 @@ fn overflow(values: &[u32], low: u32, arrival: u32) -> Choice
 fn greedy(values: &[u32], room: usize, arrival: u32) -> Choice
     ensures { λ r. ⌜ r ≡ greedyChoice room (now (values .entry)) arrival ⌝ }
 {
-    if values.len() < room {
-        Choice::Hold
-    } else {
+    if room <= values.len() {
         overflow(values, lowest(values), arrival)
+    } else {
+        Choice::Hold
     }
 }
 

@@ -1,4 +1,5 @@
 use mathlib.Core.Path.{_∙_}
+use native.Mathlib.Omega.{arith}
 use Rattle.queue.proofs.Choose.{greedy-holds, greedy-overflows}
 use borrow.Author.Needs.{needs}
 use Rattle.queue.proofs.greedy.Statement.{statement}
@@ -11,10 +12,10 @@ overflow-requires : tie.Need-overflow-requires
 overflow-requires c κs = search needs
 
 returns : tie.Need-returns
-returns c = greedy-holds _ _ _ (c .if1 .taken)
+returns c = c .overflow .ensures ∙ greedy-overflows _ _ _ (omega arith)
 
 returns-2 : tie.Need-returns-2
-returns-2 c = c .overflow .ensures ∙ greedy-overflows _ _ _ (c .before .before .if1 .left)
+returns-2 c = greedy-holds _ _ _ (omega arith)
 
 pub greedy-spec : {M : Type 1} → statement M
 greedy-spec = tie.close (tie.spec lowest-requires overflow-requires returns returns-2)
