@@ -17,7 +17,7 @@ use Rattle.laws.proofs.Fifo.{Fair, greedy-fair, kept-fair}
 use Rattle.laws.proofs.Lawful.{lawful-plan}
 use Rattle.theorems.specs.Demand3.{sentAtLeast, rowsRun, PlanObeys, LinesPlan, LinesGreedy, Demand3Plan, Demand3Greedy}
 use Rattle.theorems.proofs.Trace.{traceOf, over-trace}
-use Rattle.theorems.proofs.FromLines.{plan-from-lines, greedy-from-lines}
+use Rattle.theorems.proofs.FromLines.{value-run, once, of-once}
 use Rattle.theorems.proofs.Each.{Each}
 use Rattle.theorems.proofs.Queue.{hiIn}
 use Rattle.theorems.proofs.Lowest.{PushesOut, greedy-pushes-out}
@@ -84,10 +84,11 @@ lines-plan slots values room lists e o w =
     )
 
 pub demand3-plan : Demand3Plan
-demand3-plan = plan-from-lines lines-plan
+demand3-plan slots values room lists e o =
+    of-once (value-run 1 slots values room lists _ e (λ w. once (lines-plan slots values room lists e o w)))
 
 pub demand3-greedy : Demand3Greedy
-demand3-greedy = greedy-from-lines lines-greedy
+demand3-greedy slots values room lists e o = value-run 2 slots values room lists _ e (lines-greedy slots values room lists e o)
 
 pub plan-obeys : PlanObeys
 plan-obeys slots values room lists e = lawful-plan slots values room lists e .obeys

@@ -7,13 +7,13 @@ use lib.ListN.{length}
 use Rattle.model.specs.Limits.{recordLimits}
 use Rattle.model.specs.Packets.{arrivals}
 use Rattle.model.specs.Record.{Entry, Lists, recordOf, rows}
-use Rattle.model.specs.Policies.Plan.{planRun}
 use Rattle.model.specs.Refusals.{plainRefusal}
-use Rattle.theorems.specs.Demand3.{sentAtLeast, sentValue, rowsRun, LinesPlan, LinesGreedy, Demand3Plan, Demand3Greedy}
+use Rattle.theorems.specs.Demand3.{sentAtLeast, sentValue, rowsRun}
 use Rattle.theorems.proofs.Lines.{value-bound}
 use Rattle.theorems.proofs.Trace.{in-range, values-rows}
 
-value-run : (factor : ℕ) (slots values : List ℕ) (room : ℕ) (lists : Lists) (entries : List Entry)
+-- where a record's count at every line is at most a run's, times a factor, so is its value
+pub value-run : (factor : ℕ) (slots values : List ℕ) (room : ℕ) (lists : Lists) (entries : List Entry)
     → plainRefusal slots values room lists .number ≡ 0
     → ((w : ℕ) → sentAtLeast w (rows (arrivals slots values) lists) ≤ factor * sentAtLeast w (rowsRun slots values entries))
     → sentValue (rows (arrivals slots values) lists) ≤ factor * sentValue (rowsRun slots values entries)
@@ -25,13 +25,8 @@ value-run factor slots values room lists entries e h =
     (values-rows (arrivals slots values) (made .fates) (made .whens) (made .bys) ok)
     h
 
-pub plan-from-lines : LinesPlan → Demand3Plan
-plan-from-lines h slots values room lists e o =
-    omega (
-      arith,
-      value-run 1 slots values room lists (planRun room (arrivals slots values)) e
-          (λ w. omega (arith, h slots values room lists e o w)),
-    )
+pub once : {m n : ℕ} → m ≤ n → m ≤ 1 * n
+once h = omega arith
 
-pub greedy-from-lines : LinesGreedy → Demand3Greedy
-greedy-from-lines h slots values room lists e o = value-run 2 slots values room lists _ e (h slots values room lists e o)
+pub of-once : {m n : ℕ} → m ≤ 1 * n → m ≤ n
+of-once h = omega arith

@@ -12,7 +12,7 @@ in-order-requires c κs = search needs
 
 returns : tie.Need-returns
 unfolding mfRefusal
-returns c = rw (← c .before .marking-ok .ensures) (c .in-order .ensures)
+returns c = rw (c .before .marking-ok .ensures) at (c .in-order .ensures)
 
 pub mf-spec : {M : Type 1} → statement M
 mf-spec = tie.close (tie.spec marking-ok-requires in-order-requires returns)

@@ -12,7 +12,7 @@ in-order-requires c κs = search needs
 
 returns : tie.Need-returns
 unfolding pgRefusal
-returns c = rw (← c .before .beta-ok .ensures) (c .in-order .ensures)
+returns c = rw (c .before .beta-ok .ensures) at (c .in-order .ensures)
 
 pub pg-spec : {M : Type 1} → statement M
 pg-spec = tie.close (tie.spec beta-ok-requires in-order-requires returns)
