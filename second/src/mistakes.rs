@@ -245,7 +245,7 @@ pub fn mark_down(
         } else if p.value == lo && made == MarkedUsesR {
             left -= 1;
         } else if p.value == lo && made == StandsStill {
-            break;
+            break; // nothing more comes of looking at this packet again
         }
         before -= 1;
     }

@@ -42,7 +42,8 @@ pub fn run(words: &[&str]) -> Option<String> {
     })
 }
 
-/// A live port fed the trace, where PG's call accepts that: the record that its answers tell.
+/// A live port fed the trace, where PG's call accepts that: the record that its answers tell. Every
+/// slot is ended; after the last arrival slots go on until the port is idle.
 fn fed(
     slots: &[u64],
     values: &[u64],
@@ -55,8 +56,10 @@ fn fed(
     made?;
     let mut slot = 1;
     for i in 0..slots.len() {
-        port = sent_until(port, &mut slot, Some(slots[i]), record)?;
-        slot = slots[i];
+        while slot < slots[i] {
+            port = ended(port, slot, record)?.0;
+            slot += 1;
+        }
         let (next, answer) = port.arrival(values[i]);
         port = next;
         match answer {
@@ -73,28 +76,23 @@ fn fed(
             Arrival::Refused(refusal) => return Err(refusal),
         }
     }
-    sent_until(port, &mut slot, None, record)?;
+    let mut idle = false;
+    while !idle {
+        (port, idle) = ended(port, slot, record)?;
+        slot += 1;
+    }
     Ok(rules::totals(slots, values, record))
 }
 
-/// Ends of slots up to the slot `until`, or to the first idle answer: from there on nothing is sent.
-fn sent_until(
-    mut port: Port,
-    slot: &mut u64,
-    until: Option<u64>,
-    record: &mut Record,
-) -> Result<Port, Refusal> {
-    while until.is_none_or(|until| *slot < until) {
-        let (next, answer) = port.end_of_slot();
-        port = next;
-        match answer {
-            EndOfSlot::Sent { number, .. } => record.set(number as usize - 1, SENT, *slot, 0),
-            EndOfSlot::Idle => break,
-            EndOfSlot::Refused(refusal) => return Err(refusal),
-        }
-        *slot += 1;
+/// The port after the end of a slot, and whether it was idle.
+fn ended(port: Port, slot: u64, record: &mut Record) -> Result<(Port, bool), Refusal> {
+    let (port, answer) = port.end_of_slot();
+    match answer {
+        EndOfSlot::Sent { number, .. } => record.set(number as usize - 1, SENT, slot, 0),
+        EndOfSlot::Idle => return Ok((port, true)),
+        EndOfSlot::Refused(refusal) => return Err(refusal),
     }
-    Ok(port)
+    Ok((port, false))
 }
 
 fn numbers(word: &str) -> Option<Vec<u64>> {
