@@ -10,11 +10,14 @@
 
 mod byhand;
 mod cases;
+mod fewer;
 mod kinds;
+mod mistakes;
 mod one;
 mod port;
 mod rules;
 
+use mistakes::Mistake;
 use std::io::{self, BufWriter, Write};
 use std::process::ExitCode;
 
@@ -23,6 +26,13 @@ const USAGE: &str = "usage: second                  a line for each batch of cas
        second --drawn C        the trace and parameters of case C
        second --run CALL ROOM PARAMETERS SLOTS VALUES [RECORD]
                                one call on one trace: what it says and its totals
+       second --mistakes       the mistakes of docs/MISTAKES.md, a name and a sentence each
+       second --mistake NAME --run CALL ..
+                               the same call with that mistake made
+       second --mistake NAME --fewer CALL N
+                               small traces of fewer than N packets, and how many go wrong
+       second --mistake NAME --check-by-hand
+                               which of the scope's numbers that mistake gets wrong
        second --kinds [N]      how often each kind of case comes, of all or of the first N
        second --check-by-hand  the scope's numbers to check by hand";
 
@@ -34,13 +44,22 @@ fn main() -> ExitCode {
     let words: Vec<&str> = arguments.iter().map(String::as_str).collect();
     let written = match words[..] {
         [] => write_sums(),
-        ["--check-by-hand"] => return check_by_hand(),
+        ["--check-by-hand"] => return check_by_hand(None),
+        ["--mistake", name, "--check-by-hand"] => match mistakes::named(name) {
+            Some(mistake) => return check_by_hand(Some(mistake)),
+            None => return usage(),
+        },
         ["--kinds"] => return write_kinds(cases::CASES),
         ["--kinds", n] => match n.parse::<u32>() {
             Ok(n) => return write_kinds(u64::from(n)),
             Err(_) => return usage(),
         },
         ["--run", ref rest @ ..] => match one::run(rest) {
+            Some(text) => write_text(&text),
+            None => return usage(),
+        },
+        ["--mistakes"] => write_mistakes(),
+        ["--mistake", name, ref rest @ ..] => match mistaken(name, rest) {
             Some(text) => write_text(&text),
             None => return usage(),
         },
@@ -69,6 +88,26 @@ fn write_text(text: &str) -> io::Result<()> {
     let mut out = io::stdout().lock();
     out.write_all(text.as_bytes())?;
     out.flush()
+}
+
+fn mistaken(name: &str, words: &[&str]) -> Option<String> {
+    let mistake = mistakes::named(name)?;
+    match words {
+        ["--run", rest @ ..] => mistakes::with(Some(mistake), || one::run(rest)),
+        ["--fewer", call, n] => {
+            let (traces, wrong) = fewer::count(mistake, call, n.parse().ok()?)?;
+            Some(format!("{traces} traces, {wrong} go wrong\n"))
+        }
+        _ => None,
+    }
+}
+
+fn write_mistakes() -> io::Result<()> {
+    let mut text = String::new();
+    for (_, name, sentence) in mistakes::ALL {
+        text += &format!("{name}: {sentence}\n");
+    }
+    write_text(&text)
 }
 
 fn write_sums() -> io::Result<()> {
@@ -108,8 +147,8 @@ fn write_kinds(cases: u64) -> ExitCode {
     }
 }
 
-fn check_by_hand() -> ExitCode {
-    let (passed, differing) = byhand::run();
+fn check_by_hand(mistake: Option<Mistake>) -> ExitCode {
+    let (passed, differing) = mistakes::with(mistake, byhand::run);
     let mut text = String::new();
     for line in &differing {
         text += &format!("{line}\n");

@@ -1,5 +1,6 @@
 //! The live PG port. Quoted sentences are the scope's.
 
+use crate::mistakes::{made, Mistake};
 use crate::rules::{lowest, preempted, refuse_3, refuse_4_beta, value_bad, Held, Refusal};
 
 pub const PLACES: usize = 256;
@@ -189,7 +190,7 @@ impl Port {
             return (self, EndOfSlot::Refused(NOT_SOUND));
         }
         let mut list = self.packets();
-        if list.is_empty() {
+        if list.is_empty() || (made(Mistake::IdlePort) && list.len() == 1) {
             return (self, EndOfSlot::Idle);
         }
         let Held { number, value } = list.remove(0);

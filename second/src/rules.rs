@@ -1,5 +1,8 @@
 //! The rules of the scope: refusals, the record and its totals, the three policies, the offline
 //! plan and the audit. Quoted sentences are the scope's. Packet i of a list has number i + 1.
+//! Where `mistakes` or `made` is asked, `--mistake NAME` can put a mistake in the rule's place.
+
+use crate::mistakes::{self, made, Mistake};
 
 pub const MAX_PACKETS: usize = 2048;
 pub const MAX_SLOT: u64 = 1_000_000;
@@ -25,10 +28,14 @@ pub struct Record {
 }
 
 impl Record {
-    fn set(&mut self, packet: usize, fate: u64, when: u64, by: u64) {
-        self.fates[packet] = fate;
-        self.whens[packet] = when;
-        self.bys[packet] = by;
+    pub fn set(&mut self, packet: usize, fate: u64, when: u64, by: u64) {
+        let length = self.fates.len();
+        let Some((packet, entry)) = mistakes::entry(length, packet, [fate, when, by]) else {
+            return;
+        };
+        self.fates[packet] = entry[0];
+        self.whens[packet] = entry[1];
+        self.bys[packet] = entry[2];
     }
 }
 
@@ -48,7 +55,7 @@ pub struct Totals {
 
 /// "Totals: packets arrived and their value; count and value for each of the five fates; the most
 /// held just after any arrival (0 for an empty trace), held being as fault 15 below counts it."
-fn totals(slots: &[u64], values: &[u64], record: &Record) -> Totals {
+pub fn totals(slots: &[u64], values: &[u64], record: &Record) -> Totals {
     let mut totals = Totals::default();
     for i in 0..slots.len() {
         totals.arrived.count += 1;
@@ -66,13 +73,17 @@ fn totals(slots: &[u64], values: &[u64], record: &Record) -> Totals {
     for i in 0..slots.len() {
         totals.most_held = totals.most_held.max(held_after(slots, record, i));
     }
+    if made(Mistake::NoMostHeld) {
+        totals.most_held = 0;
+    }
     totals
 }
 
 /// "Held are the packets up to this one that are: sent or flushed, with when not before this slot;
 /// or pushed out or preempted, with by greater than this number."
 fn held_after(slots: &[u64], record: &Record, this: usize) -> u64 {
-    let this_slot = slots[this];
+    let after_sending = u64::from(made(Mistake::RoomAfterSending));
+    let this_slot = slots[this] + after_sending;
     let this_number = this as u64 + 1;
     let mut held = 0;
     for i in 0..=this {
@@ -120,7 +131,8 @@ pub fn refuse_2(slots: &[u64]) -> Result<(), Refusal> {
 
 /// 3: "room out of range".
 pub fn refuse_3(room: u64) -> Result<(), Refusal> {
-    refuse_if(room < 1 || room > MAX_ROOM, 3, 0)
+    let bad = room < 1 || room > MAX_ROOM || made(Mistake::RefusesEverything);
+    refuse_if(bad, 3, 0)
 }
 
 /// 4: "beta [...] out of range": "each 1 to 65,535, num > den".
@@ -262,12 +274,21 @@ pub fn lowest(held: &[Held]) -> usize {
             lowest = place;
         }
     }
+    if made(Mistake::OldestOfEquals) {
+        return held
+            .iter()
+            .position(|p| p.value == held[lowest].value)
+            .unwrap_or(0);
+    }
     lowest
 }
 
 /// "Going from the oldest held packet, the first p with value(p) x num <= value(arrival) x den is
 /// preempted, at most one." The place of p, if there is one.
 pub fn preempted(held: &[Held], arrival: u64, num: u64, den: u64) -> Option<usize> {
+    if let Some(mistaken) = mistakes::preempted(held, arrival, num, den) {
+        return mistaken;
+    }
     for place in 0..held.len() {
         if held[place].value * num <= arrival * den {
             return Some(place);
@@ -293,10 +314,14 @@ fn run(policy: Policy, slots: &[u64], values: &[u64], room: usize, record: &mut 
             number: i as u64 + 1,
             value: values[i],
         };
+        if mistakes::decided(i) == Some(false) {
+            record.set(i, REJECTED, slot, arrival.number);
+            continue;
+        }
         if let Policy::Pg { num, den } = policy {
-            if let Some(place) = preempted(&held, arrival.value, num, den) {
-                let lost = held.remove(place);
-                record.set(lost.packet(), PREEMPTED, slot, arrival.number);
+            preempt(arrival, slot, (num, den), &mut held, record);
+            if made(Mistake::SecondPreemption) {
+                preempt(arrival, slot, (num, den), &mut held, record);
             }
         }
         arrive_greedily(arrival, slot, room, &mut held, record);
@@ -304,6 +329,19 @@ fn run(policy: Policy, slots: &[u64], values: &[u64], room: usize, record: &mut 
     while !held.is_empty() {
         end_of_slot(policy, slots, slot, room, &mut held, &mut marks, record);
         slot += 1;
+    }
+}
+
+fn preempt(
+    arrival: Held,
+    slot: u64,
+    (num, den): (u64, u64),
+    held: &mut Vec<Held>,
+    record: &mut Record,
+) {
+    if let Some(place) = preempted(held, arrival.value, num, den) {
+        let lost = held.remove(place);
+        record.set(lost.packet(), PREEMPTED, slot, arrival.number);
     }
 }
 
@@ -316,7 +354,10 @@ fn arrive_greedily(
     held: &mut Vec<Held>,
     record: &mut Record,
 ) {
-    let there_is_room = held.len() < room;
+    let there_is_room = match mistakes::there_is_room(held.len(), || lost(record), room) {
+        Some(mistaken) => mistaken,
+        None => held.len() < room,
+    };
     held.push(arrival);
     if !there_is_room {
         let place = lowest(held);
@@ -327,6 +368,12 @@ fn arrive_greedily(
             record.set(lost.packet(), PUSHED_OUT, slot, arrival.number);
         }
     }
+}
+
+/// How many packets that were held have been lost; only a mistake asks.
+fn lost(record: &Record) -> usize {
+    let is_lost = |fate: &&u64| **fate == PUSHED_OUT || **fate == PREEMPTED;
+    record.fates.iter().filter(is_lost).count()
 }
 
 fn end_of_slot(
@@ -369,6 +416,9 @@ fn mark(
         if marker.value != hi || slots[marker.packet()] != slot {
             continue;
         }
+        if mistakes::mark_down((lo, r), marker.number, position, held, marks).is_some() {
+            continue;
+        }
         let mut left = r;
         let mut before = position - 1;
         while left > 0 && before >= 1 {
@@ -395,7 +445,8 @@ fn flush(slot: u64, held: &mut Vec<Held>, marks: &[u64], record: &mut Record) {
     for p in held.iter() {
         let its_mark = marks[p.packet()];
         if its_mark != 0 && its_mark <= m {
-            record.set(p.packet(), FLUSHED, slot, its_mark);
+            let by = if made(Mistake::HeadMark) { m } else { its_mark };
+            record.set(p.packet(), FLUSHED, slot, by);
         } else {
             stay.push(*p);
         }
@@ -410,9 +461,17 @@ fn flush(slot: u64, held: &mut Vec<Held>, marks: &[u64], record: &mut Record) {
 /// packets held."
 fn kept_by_the_plan(slots: &[u64], values: &[u64], room: u64) -> Vec<bool> {
     let mut order: Vec<usize> = (0..slots.len()).collect();
-    order.sort_by(|&i, &j| values[j].cmp(&values[i]).then(i.cmp(&j)));
+    if made(Mistake::NewestFirst) {
+        order.sort_by(|&i, &j| values[j].cmp(&values[i]).then(j.cmp(&i)));
+    } else {
+        order.sort_by(|&i, &j| values[j].cmp(&values[i]).then(i.cmp(&j)));
+    }
     let mut kept = vec![false; slots.len()];
     for i in order {
+        if let Some(mistaken) = mistakes::decided(i) {
+            kept[i] = mistaken;
+            continue;
+        }
         kept[i] = true;
         if !fits(slots, &kept, room) {
             kept[i] = false;
@@ -423,6 +482,7 @@ fn kept_by_the_plan(slots: &[u64], values: &[u64], room: u64) -> Vec<bool> {
 
 /// One packet leaves at each slot's end as long as any is held.
 fn fits(slots: &[u64], kept: &[bool], room: u64) -> bool {
+    let room = room + u64::from(made(Mistake::RoomAfterSending));
     let mut held: u64 = 0;
     for i in 0..slots.len() {
         if i > 0 {
@@ -473,9 +533,17 @@ pub fn audit(
     refuse_2(slots)?;
     refuse_3(room)?;
     refuse_5_6(slots, values, None)?;
-    for i in 0..slots.len() {
+    let mut packets = slots.len();
+    if made(Mistake::PassesEverything) {
+        packets = 0;
+    }
+    if made(Mistake::StopsEarly) {
+        packets = packets.saturating_sub(1);
+    }
+    for i in 0..packets {
         if let Some(number) = fault_at(slots, room, record, i) {
-            let packet = i as u64 + 1;
+            let blamed = if made(Mistake::FirstBlamed) { 0 } else { i };
+            let packet = blamed as u64 + 1;
             return Ok(Verdict::Fault { number, packet });
         }
     }
@@ -519,7 +587,8 @@ fn fault_at(slots: &[u64], room: u64, record: &Record, i: usize) -> Option<u64> 
     if fate == SENT {
         let last_sent = (0..i).rev().find(|&j| record.fates[j] == SENT);
         if let Some(j) = last_sent {
-            if when <= record.whens[j] {
+            let same_slot_passes = made(Mistake::SameSlot) && when == record.whens[j];
+            if when <= record.whens[j] && !same_slot_passes {
                 return Some(14);
             }
         }
