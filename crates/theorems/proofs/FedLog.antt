@@ -72,6 +72,12 @@ cause-some causes.Spent = omega arith
 cause-some causes.Unsound = omega arith
 cause-some causes.Text = omega arith
 
+-- a refusal has a number, gives none and names no packet
+refused-blank : (reply : PortReply) → Refuses reply → (0 < reply .number) × ((reply .given .0 ≡ 0) × (reply .packet .number .0 ≡ 0))
+refused-blank reply r =
+    let is = r .1 .1 in
+    (rw is (cause-some (r .0)), (rw is refl, rw is refl))
+
 pub log-idle : (now : ℕ) → Log (ends (slotAt now) (ofSlot slot.Idle) ∷ []) [] [] now 1
 unfolding flatMap slotsFrom
 log-idle now =
@@ -79,7 +85,7 @@ log-idle now =
       tells = refl;
       numbers = refl;
       slots = refl;
-      none-refused = (λ r. omega (arith, cause-some (r .0), ap (λ (a : PortReply). a .number) (r .1 .1)), tt);
+      none-refused = (λ r. omega (arith, refused-blank _ r), tt);
     }
 
 pub log-sent : (now : ℕ) (p : Packet) → 0 < p .number .0 → Log (ends (slotAt now) (ofSlot (slot.Sent p)) ∷ []) (sentAt (slotAt now) p ∷ []) [] now 1
@@ -89,7 +95,7 @@ log-sent now p some =
       tells = refl;
       numbers = refl;
       slots = refl;
-      none-refused = (λ r. omega (arith, ap (λ (a : PortReply). a .packet .number .0) (r .1 .1)), tt);
+      none-refused = (λ r. omega (arith, refused-blank _ r), tt);
     }
 
 -- an arrival's answer carries the packet's number, and tells what the decision enters
@@ -118,8 +124,5 @@ log-arrival a decision some =
       tells = append-nil _ ∙ tells-decision a decision;
       numbers = ap (λ (n : PacketNumber). record { slot = a .slot; packet = record { number = n; value = a .packet .value } } ∷ []) same;
       slots = refl;
-      none-refused = (
-        λ r. omega (arith, ap (λ (n : PacketNumber). n .0) same, ap (λ (reply : PortReply). reply .given .0) (r .1 .1)),
-        tt,
-      );
+      none-refused = (λ r. omega (arith, ap (λ (n : PacketNumber). n .0) same, refused-blank _ r), tt);
     }

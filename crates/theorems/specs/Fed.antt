@@ -2,7 +2,7 @@
 -- slots until nothing is held. What the port told, written as a record, is the three lists that PG's call leaves. The proof is in proofs/Fed.antt.
 use Prim.Native.Nat.{ℕ, zero, suc}
 use mathlib.Core.Path.{_≡_}
-use mathlib.Core.Bool.{cond}
+use mathlib.Core.Bool.{false, cond}
 use mathlib.Core.List.{List, [], _∷_, _++_, flatMap}
 use lib.ListN.{length}
 use lib.Dec.{eqb}
@@ -22,7 +22,7 @@ use Rattle.model.specs.Course.{first}
 use Rattle.model.specs.Policies.PG.{pgRun}
 use Rattle.model.specs.Refusals.{pgRefusal}
 use Rattle.model.specs.Answers.{PortReply, causeNumber, portRefused, ofArrival, ofSlot, ofMaking}
-use Rattle.model.specs.Port.{PortState, queueOf, makeCall, arriveCall, endOfSlotCall}
+use Rattle.model.specs.Port.{PortState, sound, queueOf, makeCall, arriveCall, endOfSlotCall}
 use Rattle.model.specs.Calls.{pgCall}
 
 -- a call that the feed makes, and the port's answer: in this slot a packet of this value arrives, or this slot ends
@@ -125,6 +125,13 @@ PortDecidesAsPG =
     (slots values : List ℕ) (room : ℕ) (beta : Beta) (lists : Lists)
     → pgRefusal beta slots values room lists .number ≡ 0
     → AsPG slots values room beta lists (fed slots values room beta)
+
+-- a refusal is seen as one: a port that isn't sound refuses both calls
+abbrev pub RefusalSeen : Type 0
+RefusalSeen =
+    (port : PortState) (value : ℕ)
+    → sound port ≡ false
+    → Refuses (arriveCall port value .reply) × Refuses (endOfSlotCall port .reply)
 
 -- a feed by hand: one packet in slot 1 and one in slot 4. Slots 2 and 3 are ended too, and are idle
 abbrev pub packet : ℕ → ℕ → Packet
