@@ -12,11 +12,11 @@ use Rattle.model.specs.declared.Beta.{Beta}
 use Rattle.model.specs.declared.Cause.the-variants.{Unsound}
 use Rattle.model.specs.declared.MakingAnswer.the-variants.{Made}
 use Rattle.model.specs.Limits.{portLimits, within}
-use Rattle.model.specs.Packets.{Arrival, arrivalsFrom, slotsUntil}
+use Rattle.model.specs.Packets.{Arrival, arrivalsFrom, arrivals, slotsUntil}
 use Rattle.model.specs.Record.{Entry, Lists, recordOf}
 use Rattle.model.specs.Course.{Step, byRule, slotEnds, course}
 use Rattle.model.specs.Policies.Greedy.{greedyRule}
-use Rattle.model.specs.Policies.PG.{pgRule, preemptedAt}
+use Rattle.model.specs.Policies.PG.{pgRule, preemptedAt, pgRun}
 use Rattle.model.specs.Refusals.{valueOk, lengthsRefusal, packetsRefusal, roomRefusal, betaRefusal, pgRefusal, makingRefusal, arrivalRefusal}
 use Rattle.model.specs.Rules.{orElse}
 use Rattle.model.specs.Answers.{ofMaking}
@@ -122,8 +122,13 @@ made-carries room beta done =
       queue-is = refl;
     })
 
-pub port-decides-as-pg : PortDecidesAsPG
+-- what PG's call leaves where it is not refused
+left-by-pg : (slots values : List ℕ) (room : ℕ) (beta : Beta) (lists : Lists) → pgRefusal beta slots values room lists .number ≡ 0
+    → pgCall slots values room beta lists .lists ≡ recordOf (length slots) (pgRun room beta (arrivals slots values))
 unfolding pgCall runUnless
+left-by-pg slots values room beta lists e = rw e refl
+
+pub port-decides-as-pg : PortDecidesAsPG
 port-decides-as-pg slots values room beta lists e =
     let T = pg-accepted slots values room lists beta e in
     let done = making slots values room beta lists e in
@@ -138,7 +143,7 @@ port-decides-as-pg slots values room beta lists e =
       queue-empty = queue-none (fed slots values room beta .port) (F .none-held);
       then-idle = sym (slot-idle _ (F .is-sound) (F .none-held));
       entries = F .log .tells;
-      left = ap (recordOf (length slots)) (F .log .tells) ∙ rw e refl;
+      left = ap (recordOf (length slots)) (F .log .tells) ∙ sym (left-by-pg slots values room beta lists e);
     }
 
 pub refusal-seen : RefusalSeen

@@ -12,7 +12,7 @@ use Rattle.model.specs.declared.Cause.the-variants as causes
 use Rattle.model.specs.declared.LossKind.{LossKind}
 use Rattle.model.specs.declared.LossKind.the-variants.{PushedOut, Preempted}
 use Rattle.model.specs.declared.SlotAnswer.the-variants as slot
-use Rattle.model.specs.Packets.{Arrival}
+use Rattle.model.specs.Packets.{Arrival, nobody}
 use Rattle.model.specs.Record.{Entry, sentAt, lostTo}
 use Rattle.model.specs.Course.{Decision, held, rejected, losing, entriesOf}
 use Rattle.model.specs.Answers.{PortReply, causeNumber, ofSlot}
@@ -76,7 +76,10 @@ cause-some causes.Text = omega arith
 refused-blank : (reply : PortReply) → Refuses reply → (0 < reply .number) × ((reply .given .0 ≡ 0) × (reply .packet .number .0 ≡ 0))
 refused-blank reply r =
     let is = r .1 .1 in
-    (rw is (cause-some (r .0)), (rw is refl, rw is refl))
+    let number : reply .number ≡ causeNumber (r .0) = cc in
+    let given : reply .given ≡ record { 0 = 0 } = cc in
+    let packet : reply .packet ≡ nobody = cc in
+    (omega (arith, cause-some (r .0)), (ap (λ (n : PacketNumber). n .0) given, ap (λ (p : Packet). p .number .0) packet))
 
 pub log-idle : (now : ℕ) → Log (ends (slotAt now) (ofSlot slot.Idle) ∷ []) [] [] now 1
 unfolding flatMap slotsFrom
