@@ -9,7 +9,6 @@ use lib.ListN.{length, getD}
 use borrow.Author.Tests.{not-false}
 use Rattle.model.specs.declared.Packet.{Packet}
 use Rattle.model.specs.declared.Beta.{Beta}
-use Rattle.model.specs.declared.Cause.the-variants.{Unsound}
 use Rattle.model.specs.declared.MakingAnswer.the-variants.{Made}
 use Rattle.model.specs.Limits.{portLimits, within}
 use Rattle.model.specs.Packets.{Arrival, arrivalsFrom, arrivals, slotsUntil}
@@ -22,13 +21,13 @@ use Rattle.model.specs.Rules.{orElse}
 use Rattle.model.specs.Answers.{ofMaking}
 use Rattle.model.specs.Calls.{runUnless, pgCall}
 use Rattle.model.specs.Port.{PortState, PortOutcome, fresh, sound, all, risesFrom, packetsOf, holding, unlessRefused, makeCall, arriveCall, endOfSlotCall}
-use Rattle.port.proofs.Calls.{making-done, arrival-unsound, slot-unsound, queue-none, slot-idle}
+use Rattle.port.proofs.Calls.{making-done, queue-none, slot-idle}
 use Rattle.port.proofs.Sound.{made-sound}
 use Rattle.laws.proofs.Conserving.{conserving-pg, slotEnds-shorter}
 use Rattle.laws.proofs.FirstFault.{orElse-zero, verdictIf-zero}
 use Rattle.laws.proofs.Accepted.{pg-accepted}
 use Rattle.laws.proofs.Standing.{Comes}
-use Rattle.theorems.specs.Fed.{Feed, endsFed, fedFrom, fed, PortDecidesAsPG, RefusalSeen, FedByHand}
+use Rattle.theorems.specs.Fed.{Feed, endsFed, fedFrom, fed, PortDecidesAsPG, FedByHand}
 use Rattle.theorems.proofs.FedLog.{Log, slotAt, log-append, log-none, log-idle, log-sent}
 use Rattle.theorems.proofs.FedSteps.{Carries, ended, ended-carries, oldest-some, answered}
 
@@ -146,12 +145,7 @@ port-decides-as-pg slots values room beta lists e =
       left = ap (recordOf (length slots)) (F .log .tells) ∙ sym (left-by-pg slots values room beta lists e);
     }
 
-pub refusal-seen : RefusalSeen
-refusal-seen port value unsound = (
-  (Unsound, (0, ap (λ (o : PortOutcome). o .reply) (sym (arrival-unsound port value unsound)))),
-  (Unsound, (0, ap (λ (o : PortOutcome). o .reply) (sym (slot-unsound port unsound)))),
-)
-
 pub fed-by-hand : FedByHand
-unfolding arrivalsFrom fedFrom endsFed makeCall makingRefusal arriveCall arrivalRefusal endOfSlotCall unlessRefused orElse within sound all risesFrom packetsOf holding pgRule preemptedAt greedyRule
+unfolding arrivalsFrom fedFrom endsFed makeCall makingRefusal arriveCall arrivalRefusal endOfSlotCall unlessRefused orElse within
+    sound all risesFrom packetsOf holding pgRule preemptedAt greedyRule
 fed-by-hand = refl

@@ -20,4 +20,5 @@ pub mod PlainMF
 pub mod FlushLeaves
 pub mod FedLog
 pub mod FedSteps
+pub mod FedRefusals
 pub mod Fed

@@ -2,13 +2,12 @@
 -- slots until nothing is held. What the port told, written as a record, is the three lists that PG's call leaves. The proof is in proofs/Fed.antt.
 use Prim.Native.Nat.{ℕ, zero, suc}
 use mathlib.Core.Path.{_≡_}
-use mathlib.Core.Bool.{false, cond}
+use mathlib.Core.Bool.{cond}
 use mathlib.Core.List.{List, [], _∷_, _++_, flatMap}
 use lib.ListN.{length}
 use lib.Dec.{eqb}
 use Rattle.model.specs.declared.Slot.{Slot}
 use Rattle.model.specs.declared.Packet.{Packet}
-use Rattle.model.specs.declared.PacketNumber.{PacketNumber}
 use Rattle.model.specs.declared.Beta.{Beta}
 use Rattle.model.specs.declared.Cause.{Cause}
 use Rattle.model.specs.declared.Fate.the-variants as fates
@@ -20,7 +19,7 @@ use Rattle.model.specs.Packets.{Arrival, arrivals, slotsUntil, following}
 use Rattle.model.specs.Record.{Entry, Lists, fateNumber, sentAt, rejectedAt, lostTo, recordOf}
 use Rattle.model.specs.Course.{first}
 use Rattle.model.specs.Policies.PG.{pgRun}
-use Rattle.model.specs.Refusals.{pgRefusal}
+use Rattle.model.specs.Refusals.{pgRefusal, makingRefusal, arrivalRefusal, soundRefusal}
 use Rattle.model.specs.Answers.{PortReply, causeNumber, portRefused, ofArrival, ofSlot, ofMaking}
 use Rattle.model.specs.Port.{PortState, sound, queueOf, makeCall, arriveCall, endOfSlotCall}
 use Rattle.model.specs.Calls.{pgCall}
@@ -43,7 +42,8 @@ endsFed (suc n) now port =
     let rest = endsFed n (following now) (done .port) in
     record { calls = ends now (done .reply) ∷ rest .calls; port = rest .port }
 
--- a trace is fed from slot `now` on: the slots before the next packet's end, and it arrives; after the last arrival slots end until nothing is held
+-- a trace is fed from slot `now` on: the slots before the next packet's end, and it arrives. After the last arrival as many slots end as packets are held,
+-- which leaves none
 unfoldable pub fedFrom : Slot → PortState → List Arrival → Feed
 fedFrom now port [] = endsFed (port .held) now port
 fedFrom now port (a ∷ trace) =
@@ -63,6 +63,7 @@ fed slots values room beta = fedFrom first (makeCall room beta .port) (arrivals 
 abbrev pub Refuses : PortReply → Type 0
 Refuses reply = (cause : Cause) × ((place : ℕ) × (reply ≡ portRefused (causeNumber cause) place))
 
+-- what the port answers to a call
 abbrev pub answerOf : Call → PortReply
 answerOf (arrives now value reply) = reply
 answerOf (ends now reply) = reply
@@ -72,10 +73,11 @@ abbrev pub NoneRefused : List Call → Type 0
 NoneRefused [] = Unit {0}
 NoneRefused (call ∷ calls) = (Refuses (answerOf call) → ⊥) × NoneRefused calls
 
--- the packet that arrives with a call, under the number that the port gave it
+-- a packet under the number that the port gave it
 abbrev pub numbered : Slot → ℕ → PortReply → Arrival
 numbered now value reply = record { slot = now; packet = record { number = reply .given; value = value } }
 
+-- the packet that arrives with a call
 abbrev pub arrivalIn : Call → List Arrival
 arrivalIn (arrives now value reply) = numbered now value reply ∷ []
 arrivalIn (ends now reply) = []
@@ -102,7 +104,7 @@ told (arrives now value reply) =
     []))
 told (ends now reply) = cond (eqb (reply .number) (fateNumber fates.Sent)) (sentAt now (reply .packet) ∷ []) []
 
--- what is said of a feed
+-- what holds of a feed where PG's call accepts the trace
 pub record AsPG (slots values : List ℕ) (room : ℕ) (beta : Beta) (lists : Lists) (feed : Feed) : Type 0 where
   -- the making answered made, and no call of the feed is refused
   pub made : makeCall room beta .reply ≡ ofMaking making.Made
@@ -126,12 +128,13 @@ PortDecidesAsPG =
     → pgRefusal beta slots values room lists .number ≡ 0
     → AsPG slots values room beta lists (fed slots values room beta)
 
--- a refusal is seen as one: a port that isn't sound refuses both calls
+-- a refusal is seen as one: wherever the test of a making, of an arrival or of an end of slot names a refusal, the answer is one
 abbrev pub RefusalSeen : Type 0
 RefusalSeen =
-    (port : PortState) (value : ℕ)
-    → sound port ≡ false
-    → Refuses (arriveCall port value .reply) × Refuses (endOfSlotCall port .reply)
+    (room : ℕ) (beta : Beta) (port : PortState) (value : ℕ)
+    → ((makingRefusal room beta .number ≡ 0 → ⊥) → Refuses (makeCall room beta .reply))
+    × (((arrivalRefusal (sound port) (port .last .0) value .number ≡ 0 → ⊥) → Refuses (arriveCall port value .reply))
+    × ((soundRefusal (sound port) .number ≡ 0 → ⊥) → Refuses (endOfSlotCall port .reply)))
 
 -- a feed by hand: one packet in slot 1 and one in slot 4. Slots 2 and 3 are ended too, and are idle
 abbrev pub packet : ℕ → ℕ → Packet
