@@ -19,3 +19,4 @@ pub mod Answered
 pub mod PlainMF
 pub mod FlushLeaves
 pub mod Fed
+pub mod Audited

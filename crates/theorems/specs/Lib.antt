@@ -2,3 +2,4 @@ pub mod Demand3
 pub mod PlainMF
 pub mod FlushLeaves
 pub mod Fed
+pub mod Audited
