@@ -20,3 +20,5 @@ pub mod PlainMF
 pub mod FlushLeaves
 pub mod Fed
 pub mod Audited
+pub mod Within
+pub mod OwnRecords

@@ -3,3 +3,4 @@ pub mod PlainMF
 pub mod FlushLeaves
 pub mod Fed
 pub mod Audited
+pub mod OwnRecords
