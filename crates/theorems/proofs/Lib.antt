@@ -22,3 +22,4 @@ pub mod Fed
 pub mod Audited
 pub mod Within
 pub mod OwnRecords
+pub mod Ledger

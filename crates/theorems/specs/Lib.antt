@@ -4,3 +4,4 @@ pub mod FlushLeaves
 pub mod Fed
 pub mod Audited
 pub mod OwnRecords
+pub mod Ledger
