@@ -3,6 +3,7 @@
 use Prim.Native.Nat.{ℕ, suc, _+_, _≤_, _<_}
 use native.Mathlib.Omega.{arith}
 use mathlib.Core.Path.{_≡_, refl, sym, ap, subst, _∙_}
+use mathlib.Core.Logic.{_⊎_, inl, inr}
 use mathlib.Core.Bool.{Bool, true, false}
 use mathlib.Core.List.{List, [], _∷_, _++_}
 use lib.ListN.{length, getD, length-append}
@@ -274,12 +275,21 @@ given-out value n (losing l) = by-kind (l .packet) (l .kind)
     by-kind p PushedOut = refl
     by-kind p Preempted = refl
 
-pub refused-keeps : RefusedKeeps
+-- an arrival leaves the port as it was or gives its number out
+same-or-given : (port : PortState) (value : ℕ)
+    → (arriveCall port value .port ≡ port) ⊎ (givenBy (arrival value) (arriveCall port value .reply) ≡ nextPacket port value .number .0 ∷ [])
 unfolding arriveCall unlessRefused
-refused-keeps port value =
+same-or-given port value =
     let p = nextPacket port value in
     let decision = pgRule (port .room) (port .beta) (queueOf port) p .decision in
-    cond-cases (λ (o : PortOutcome). givenBy (arrival value) (o .reply) ≡ [] → o .port ≡ port)
-    (eqb (arrivalRefusal (sound port) (port .last .0) value .number) 0) _ _
-    (λ e h. absurd (omega (arith, ap length (sym (given-out value (p .number) decision) ∙ h))))
-    (λ e h. refl)
+    cond-cases
+    (λ (o : PortOutcome). (o .port ≡ port) ⊎ (givenBy (arrival value) (o .reply) ≡ nextPacket port value .number .0 ∷ []))
+    (eqb (arrivalRefusal (sound port) (port .last .0) value .number) 0) _ _ (λ e. inr (given-out value (p .number) decision)) (λ e. inl refl)
+
+pub refused-keeps : RefusedKeeps
+refused-keeps port value h = go (same-or-given port value)
+  where
+    go : (arriveCall port value .port ≡ port) ⊎ (givenBy (arrival value) (arriveCall port value .reply) ≡ nextPacket port value .number .0 ∷ [])
+        → arriveCall port value .port ≡ port
+    go (inl same) = same
+    go (inr given) = absurd (omega (arith, ap length (sym given ∙ h)))

@@ -23,3 +23,4 @@ pub mod Audited
 pub mod Within
 pub mod OwnRecords
 pub mod Ledger
+pub mod PlanFits

@@ -2,6 +2,7 @@
 -- that packet has that fault, none of the faults tested before it, and no packet of lower number has any. The proofs are in proofs/Audited.antt.
 use Prim.Native.Nat.{ℕ, suc, _<_}
 use mathlib.Core.Path.{_≡_}
+use mathlib.Core.Logic.{_↔_}
 use mathlib.Core.Bool.{Bool, true, false}
 use mathlib.Core.List.{List, [], _∷_, _++_, reverse}
 use lib.ListN.{length}
@@ -46,7 +47,7 @@ OfEachAudit P =
 
 -- the audit answers 0 if and only if the record obeys the rules
 abbrev pub AuditPasses : Type 0
-AuditPasses = OfEachAudit λ B rows reply. (reply .number ≡ 0 → Obeys B rows) × (Obeys B rows → reply .number ≡ 0)
+AuditPasses = OfEachAudit λ B rows reply. (reply .number ≡ 0) ↔ Obeys B rows
 
 -- where it doesn't answer 0 it names the first fault
 abbrev pub AuditNames : Type 0

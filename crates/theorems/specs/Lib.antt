@@ -5,3 +5,4 @@ pub mod Fed
 pub mod Audited
 pub mod OwnRecords
 pub mod Ledger
+pub mod PlanFits
