@@ -9,15 +9,15 @@ use lib.ListN.{length}
 use lib.Dec.{eqb}
 use Rattle.model.specs.declared.Fault.{Fault}
 use Rattle.model.specs.declared.Fault.the-variants.{FateOutside, ByWrong, WhenWrong, NotLater, OverRoom}
-use Rattle.model.specs.Packets.{Arrival, arrivalsFrom, arrivals}
+use Rattle.model.specs.Packets.{arrivalsFrom, arrivals}
 use Rattle.model.specs.Record.{Row, Lists, rowsOf, rows}
-use Rattle.model.specs.Rules.{Buffer, Verdict, Faultless, ObeysFrom, Obeys, orElse, faultAt, firstFaultFrom, firstFault}
+use Rattle.model.specs.Rules.{Buffer, Verdict, Faultless, ObeysFrom, orElse, faultAt, firstFaultFrom, firstFault}
 use Rattle.model.specs.Refusals.{plainRefusal}
 use Rattle.model.specs.Answers.{Reply, faultNumber}
 use Rattle.model.specs.Calls.{replyTo, replyWith, auditCall}
 use Rattle.laws.proofs.Cases.{eqb-cases}
 use Rattle.laws.proofs.FirstFault.{clear-obeysFrom, obeys-iff-clear}
-use Rattle.theorems.specs.Audited.{hasFault, Names, AuditPasses, AuditNames}
+use Rattle.theorems.specs.Audited.{hasFault, AuditPasses, AuditNames}
 
 -- to show something of each fault
 each-fault : (Q : Fault → Type 0) → Q FateOutside → Q ByWrong → Q WhenWrong → Q NotLater → Q OverRoom → (f : Fault) → Q f

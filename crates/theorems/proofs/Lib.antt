@@ -22,5 +22,6 @@ pub mod Fed
 pub mod Audited
 pub mod Within
 pub mod OwnRecords
+pub mod Turns
 pub mod Ledger
 pub mod PlanFits

@@ -15,7 +15,7 @@ use Rattle.model.specs.Packets.{Arrival, arrivals, placeOf, slotsUntil}
 use Rattle.model.specs.Record.{Lists}
 use Rattle.model.specs.Refusals.{plainRefusal}
 use Rattle.model.specs.Course.{Policy, byRule, slotEnds, runBy, first}
-use Rattle.model.specs.Policies.Plan.{keptOf, fitsFrom, fits, keptRule}
+use Rattle.model.specs.Policies.Plan.{keptOf, fitsFrom, keptRule}
 use Rattle.model.specs.Totals.{mostHeldFrom}
 use Rattle.laws.proofs.Cases.{eqb-cases}
 use Rattle.laws.proofs.Fifo.{fifo-kept}
