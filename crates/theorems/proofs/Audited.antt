@@ -166,9 +166,9 @@ audit-names slots values room lists z h =
       in-order = S .in-order;
       own-number = omega (arith, numbered-at 1 (S .lower) (S .packet) (S .higher) in-order);
       fault = F .fault;
-      number-named = number ∙ ap (λ (v : Verdict). v .number) (S .verdict) ∙ F .number-is;
-      place-named = answer-place slots values room lists z named ∙ ap (λ (v : Verdict). v .place) (S .verdict) ∙ F .place-is;
+      number-named = omega (arith, number, ap (λ (v : Verdict). v .number) (S .verdict), F .number-is);
+      place-named = omega (arith, answer-place slots values room lists z named, ap (λ (v : Verdict). v .place) (S .verdict), F .place-is);
       has-it = F .has;
-      none-before = F .none-before;
+      none-before = λ other h. F .none-before other (omega arith);
       lower-obey = S .lower-obey;
     }

@@ -125,12 +125,12 @@ ledger-kept room beta events made =
     let W = went port events (made-sound room beta made) (E .held-is ∙ ap length (sym (E .queue-is))) in
     record {
       is-sound = W .is-sound;
-      never-8 = W .never-8;
+      never-8 = omega (arith, W .never-8);
       given-once = λ n.
-          counts-within 1 (portAfter port events .last .0) n _
+          counts-within _ _ n _ _
           (λ h. W .given-once .below n (omega (arith, E .last-is)))
-          (λ h k. W .given-once .among n (omega (arith, E .last-is)) k)
-          (W .given-once .above n);
+          (λ h k. W .given-once .among n (omega (arith, E .last-is)) (omega arith))
+          (λ h. W .given-once .above n (omega arith));
       held-or-gone = λ n. omega (arith, rw (E .queue-is) at (W .balance n));
       so-many = omega (arith, W .so-many, W .held-is, ap length (E .queue-is));
     }

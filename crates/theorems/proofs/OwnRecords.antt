@@ -3,10 +3,9 @@
 use Prim.Native.Nat.{ℕ, zero, suc, _+_, _≤_, _<_}
 use native.Mathlib.Omega.{arith}
 use mathlib.Core.Path.{_≡_, refl, sym, ap, _∙_}
-use mathlib.Core.Bool.{Bool, cond}
+use mathlib.Core.Bool.{Bool}
 use mathlib.Core.List.{List, [], _∷_}
 use lib.ListN.{length}
-use Rattle.model.specs.Limits.{within}
 use Rattle.model.specs.Packets.{arrivalsFrom, arrivals}
 use Rattle.model.specs.Record.{Entry, Lists, blank}
 use Rattle.model.specs.Rules.{Verdict, clear}
@@ -97,12 +96,6 @@ module _ (slots values : List ℕ) (room : ℕ) where
   entered-once (mf M) l = once-mf slots values l room M
   entered-once plan l = once-plan slots values l room
 
-  one-each : (by : Planner) → length values ≡ length slots → (n : ℕ) → timesEntered n (entriesBy by slots values room) ≡ cond (within 1 (length slots) n) 1 0
-  one-each by l n =
-      counts-within 1 (length slots) n _
-      (once-below n (entered-once by l)) (once-among n (entered-once by l))
-      (λ h. omega (arith, entered-arriving n by, arrivals-above n 1 slots values (omega arith)))
-
   module _ (by : Planner) (lent : Lists) (z : callBy by slots values room lent .reply .number ≡ 0) where
     ran-number : runUnless (refusal by lent) lent (outcome by) .reply .number ≡ 0
     ran-number = ap (λ (o : Outcome). o .reply .number) (sym (call-is by lent)) ∙ z
@@ -128,12 +121,16 @@ pub own-records-written : OwnRecordsWritten
 own-records-written by slots values room lent z =
     let packets = length slots in
     let entries = entriesBy by slots values room in
-    let lengths = fits slots values room by lent z .lengths in
+    let once = entered-once slots values room by (fits slots values room by lent z .lengths) in
     let left = ap (λ (o : Outcome). o .lists) (call-ran slots values room by lent z) in
     record {
-      one-each = one-each slots values room by lengths;
+      one-each = λ n.
+          counts-within _ _ n _ _
+          (λ h. once-below n once (omega arith))
+          (λ h k. omega (arith, once-among n once (omega arith) (omega arith)))
+          (λ h. omega (arith, entered-arriving slots values room n by, arrivals-above n 1 slots values (omega arith)));
       as-long = rw left (entered-sized packets entries (blank packets) (blank-sized packets));
-      over-any = λ before b. left ∙ sym (entered-all packets entries (entered-once slots values room by lengths) before b);
+      over-any = λ before b. left ∙ sym (entered-all packets entries once before b);
     }
 
 pub lent-forgotten : LentForgotten
