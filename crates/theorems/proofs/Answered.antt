@@ -17,7 +17,7 @@ use Rattle.theorems.specs.Demand3.{TotalsPlan, TotalsGreedy}
 use Rattle.theorems.proofs.Demand3.{demand3-plan, demand3-greedy}
 
 -- a run that answers number 0 was not refused
-not-refused : (v : Verdict) (lists : Lists) (outcome : Outcome) → runUnless v lists outcome .reply .number ≡ 0 → runUnless v lists outcome ≡ outcome
+pub not-refused : (v : Verdict) (lists : Lists) (outcome : Outcome) → runUnless v lists outcome .reply .number ≡ 0 → runUnless v lists outcome ≡ outcome
 unfolding runUnless
 not-refused v lists outcome = go (eqb (v .number) 0) refl
   where

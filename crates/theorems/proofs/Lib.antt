@@ -22,3 +22,9 @@ pub mod FedLog
 pub mod FedSteps
 pub mod FedRefusals
 pub mod Fed
+pub mod Audited
+pub mod Within
+pub mod OwnRecords
+pub mod Turns
+pub mod Ledger
+pub mod PlanFits

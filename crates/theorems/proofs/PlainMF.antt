@@ -138,7 +138,7 @@ plain-clear M slots values room lists z =
     orElse-clear _ _ (one .0) (orElse-clear _ _ (two .0) (orElse-clear _ _ (three .0) (orElse-clear clear _ refl wider)))
 
 -- where a verdict is clear the outcome is the run's
-run-clear : (v : Verdict) (lists : Lists) (outcome : Outcome) → v .number ≡ 0 → runUnless v lists outcome ≡ outcome
+pub run-clear : (v : Verdict) (lists : Lists) (outcome : Outcome) → v .number ≡ 0 → runUnless v lists outcome ≡ outcome
 unfolding runUnless
 run-clear v lists outcome z = rw z refl
 

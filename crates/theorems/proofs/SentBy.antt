@@ -55,7 +55,7 @@ none-sent n a (losing l) = go (l .kind)
     go kinds.Preempted = rw and-false
 
 module _ (rule : List Packet → Packet → Decided) where
-  ends-next : (n : ℕ) (now : Slot) (queue : List Packet) → slotEnds (byRule rule) n now queue .next ≡ drop n queue
+  pub ends-next : (n : ℕ) (now : Slot) (queue : List Packet) → slotEnds (byRule rule) n now queue .next ≡ drop n queue
   unfolding slotEnds
   ends-next zero now queue = refl
   ends-next (suc n) now [] = refl
