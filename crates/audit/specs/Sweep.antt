@@ -8,7 +8,7 @@ use Rattle.model.specs.declared.Fate.the-variants.{Sent, Flushed}
 use Rattle.model.specs.Record.{Row}
 use Rattle.model.specs.Totals.{mostHeldFrom}
 use Rattle.model.specs.Rules.{Buffer, clear, firstFault, hasFate, isLost}
-use Rattle.model.specs.Answers.{faultNumber}
+use Rattle.model.specs.Numbers.{faultNumber}
 use Rattle.audit.specs.declared.Swept.{Swept}
 use Rattle.audit.specs.declared.Swept.the-variants as swept
 

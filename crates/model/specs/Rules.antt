@@ -9,9 +9,12 @@ use lib.Dec.{leb, ltb, eqb}
 use Rattle.model.specs.declared.Slot.{Slot}
 use Rattle.model.specs.Limits.{within}
 use Rattle.model.specs.Packets.{slotOf}
-use Rattle.model.specs.Record.{Row, fateNumber}
+use Rattle.model.specs.Numbers.{fateNumber, faultNumber}
+use Rattle.model.specs.Record.{Row}
 use Rattle.model.specs.declared.Fate.{Fate}
 use Rattle.model.specs.declared.Fate.the-variants.{Sent, Rejected, PushedOut, Preempted, Flushed}
+use Rattle.model.specs.declared.Fault.{Fault}
+use Rattle.model.specs.declared.Fault.the-variants.{FateOutside, ByWrong, WhenWrong, NotLater, OverRoom}
 
 -- the row's packet has this fate
 unfoldable pub hasFate : Fate → Row → Bool
@@ -28,7 +31,7 @@ countOf test (r ∷ rows) = cond (test r) 1 0 + countOf test rows
 
 -- 11: fate outside 1 to 5
 unfoldable pub fateOutside : Row → Bool
-fateOutside r = not (within 1 5 (r .fate))
+fateOutside r = not (within (fateNumber Sent) (fateNumber Flushed) (r .fate))
 
 -- 12: by is not 0 for fate 1, not the own number for fate 2, or not a later packet of the trace for 3, 4, 5
 unfoldable pub byWrong : ℕ → Row → Bool
@@ -105,14 +108,17 @@ orElse v w = cond (eqb (v .number) 0) w v
 abbrev pub verdictIf : Bool → ℕ → ℕ → Verdict
 verdictIf test number place = cond test (record { number = number; place = place }) clear
 
+-- this fault, at this packet, if the test holds
+abbrev pub faultIf : Bool → Fault → Row → Verdict
+faultIf test fault r = verdictIf test (faultNumber fault) (r .number .0)
+
 -- the first fault of one packet, tested in this order
 unfoldable pub faultAt : Buffer → List Row → Row → Verdict
 faultAt B older r =
-    orElse (verdictIf (fateOutside r) 11 (r .number .0))
-    (orElse (verdictIf (byWrong (length (B .slots)) r) 12 (r .number .0))
-    (orElse (verdictIf (whenWrong (B .slots) r) 13 (r .number .0))
-    (orElse (verdictIf (notLater older r) 14 (r .number .0))
-    (verdictIf (overRoom (B .room) older r) 15 (r .number .0)))))
+    orElse (faultIf (fateOutside r) FateOutside r)
+    (orElse (faultIf (byWrong (length (B .slots)) r) ByWrong r)
+    (orElse (faultIf (whenWrong (B .slots) r) WhenWrong r)
+    (orElse (faultIf (notLater older r) NotLater r) (faultIf (overRoom (B .room) older r) OverRoom r))))
 
 -- the first fault of a record, packets taken in number order
 unfoldable pub firstFaultFrom : Buffer → List Row → List Row → Verdict
