@@ -1,4 +1,5 @@
 -- What follows from the definitions of model, said once for every policy.
+pub mod Fates
 pub mod FirstFault
 pub mod Cases
 pub mod Times

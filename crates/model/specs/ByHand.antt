@@ -14,7 +14,7 @@ use Rattle.model.specs.Policies.Greedy.{belowAll, loserAt, greedyRule}
 use Rattle.model.specs.Policies.PG.{preemptedAt, pgRule}
 use Rattle.model.specs.Policies.MF.{Marking, markDown, markFrom, flushed, unflushed}
 use Rattle.model.specs.Policies.Plan.{insert, byFallingValue, fitsFrom, keepInTurn, keptRule}
-use Rattle.model.specs.Rules.{hasFate, countOf, fateOutside, byWrong, whenWrong, notAfterLast, notLater, isHeldAt, overRoom, orElse, faultAt, firstFaultFrom}
+use Rattle.model.specs.Rules.{hasFate, atFate, countOf, fateOutside, byWrong, whenWrong, notAfterLast, notLater, isHeldAt, overRoom, orElse, faultAt, firstFaultFrom}
 use Rattle.model.specs.Totals.{valueOf, mostHeldFrom, nothing, noTotals}
 use Rattle.model.specs.Refusals.{packetRefusalFrom, plainRefusal, pgRefusal, mfRefusal}
 use Rattle.model.specs.Calls.{Outcome, runUnless, greedyCall, pgCall, mfCall, planCall, auditCall}
@@ -162,7 +162,7 @@ table =
 by-hand : map (λ (e : Example). answer (e .call)) table ≡ map (λ (e : Example). e .gives) table
 unfolding table answer before _/_/_ listsOf _#_ accepted stopped empty ones threes benchSlots benchValues p10 p11 _gives_
     within arrivalsFrom entered rowsOf slotEnds course belowAll loserAt greedyRule preemptedAt pgRule markDown markFrom flushed unflushed
-    insert byFallingValue fitsFrom keepInTurn keptRule hasFate countOf fateOutside byWrong whenWrong notAfterLast notLater isHeldAt overRoom
+    insert byFallingValue fitsFrom keepInTurn keptRule hasFate atFate countOf fateOutside byWrong whenWrong notAfterLast notLater isHeldAt overRoom
     orElse faultAt firstFaultFrom valueOf mostHeldFrom packetRefusalFrom plainRefusal pgRefusal mfRefusal runUnless greedyCall pgCall mfCall
     planCall auditCall
 by-hand = refl
