@@ -12,3 +12,4 @@ pub mod Answers
 pub mod Port
 pub mod Calls
 pub mod ByHand
+pub mod Idle
