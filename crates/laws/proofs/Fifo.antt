@@ -89,7 +89,7 @@ module _ (queue : List Packet) (p : Packet) where
   unfolding keptRule
   kept-fair kept = cond-cases (Fair queue p) (eqb (keptOf kept (p .number)) 1) _ _ (λ e. holds) (λ e. rejects)
 
-pub flush-parted : (now : Slot) (m : ℕ) (marks : List ℕ) (queue : List Packet) → Parted now queue (flushed now m marks queue) (unflushed m marks queue)
+pub flush-parted : (now : Slot) (m : PacketNumber) (marks : List ℕ) (queue : List Packet) → Parted now queue (flushed now m marks queue) (unflushed m marks queue)
 unfolding flushed unflushed
 flush-parted now m marks [] = none
 flush-parted now m marks (p ∷ queue) = go (goesWith m marks p) (flush-parted now m marks queue)
