@@ -12,7 +12,8 @@ use Rattle.model.specs.Record.{lossFate}
 use Rattle.model.specs.Packets.{nobody}
 use Rattle.model.specs.Course.{Decided, held, rejected, losing}
 use Rattle.model.specs.Policies.Greedy.{loserAt, without, greedyRule}
-use Rattle.model.specs.Policies.PG.{preemptedAt, pgRule}
+use Rattle.model.specs.Policies.PG.{preemptedAt}
+use Rattle.laws.proofs.PG.{pgAtOnce}
 use Rattle.queue.specs.declared.Rule.{Rule}
 use Rattle.queue.specs.declared.Rule.the-variants.{Greedy, PG}
 use Rattle.queue.specs.declared.Choice.{Choice}
@@ -29,10 +30,10 @@ newestOf value [] = 0
 newestOf value (v ∷ values) =
     cond (ltb (newestOf value values) (length values)) (suc (newestOf value values)) (cond (eqb v value) 0 (suc (length values)))
 
--- the rule of model that a rule names
+-- what a rule decides: plain greedy, or PG with the arrival held at once where a packet was preempted, which is PG on every queue within the room
 abbrev pub ruleOf : ℕ → Rule → List Packet → Packet → Decided
 ruleOf room Greedy = greedyRule room
-ruleOf room (PG beta) = pgRule room beta
+ruleOf room (PG beta) = pgAtOnce room beta
 
 -- the place that the beta step finds; plain greedy has no beta step
 abbrev pub betaPlace : Rule → ℕ → List ℕ → ℕ
