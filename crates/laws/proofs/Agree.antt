@@ -8,7 +8,7 @@ use lib.ListN.{length}
 use Rattle.model.specs.declared.Packet.{Packet}
 use Rattle.model.specs.declared.Slot.{Slot}
 use Rattle.model.specs.Packets.{Arrival, slotsUntil, following}
-use Rattle.model.specs.Record.{Entry, sentAt}
+use Rattle.model.specs.Record.{sentAt}
 use Rattle.model.specs.Course.{Step, Decided, andThen, byRule, slotEnds, course}
 
 module _ (rule rule′ : List Packet → Packet → Decided) where
