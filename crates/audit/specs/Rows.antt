@@ -6,7 +6,9 @@ use mathlib.Core.List.{List}
 use lib.ListN.{length, getD}
 use Rattle.model.specs.Limits.{within, recordLimits}
 use Rattle.model.specs.Rules.{fateOutside}
-use Rattle.model.specs.Record.{Row, Lists, fateNumber}
+use Rattle.model.specs.Numbers.{fateNumber}
+use Rattle.model.specs.Record.{Row, Lists}
+use Rattle.model.specs.declared.Fate.the-variants.{Sent, Flushed}
 use Rattle.faults.specs.Faults.{rowOf}
 use Rattle.audit.specs.declared.Named.{Named}
 use Rattle.audit.specs.declared.Named.the-variants.{Fate, Outside}
@@ -16,7 +18,7 @@ use Rattle.audit.specs.declared.Read.the-variants as read
 -- the number is that of the fate it names, or outside 1 to 5
 abbrev pub Names : ℕ → Named → Type 0
 Names n (Fate f) = n ≡ fateNumber f
-Names n Outside = within 1 5 n ≡ false
+Names n Outside = within (fateNumber Sent) (fateNumber Flushed) n ≡ false
 
 -- what was read is the row, or its fate is outside 1 to 5
 abbrev pub Reads : Row → Read → Type 0

@@ -4,11 +4,12 @@ use mathlib.Core.Path.{_≡_}
 use mathlib.Core.Bool.{cond}
 use mathlib.Core.List.{List, [], _∷_}
 use lib.Dec.{leb}
-use Rattle.model.specs.declared.Fate.the-variants.{Sent, Flushed}
+use Rattle.model.specs.declared.Fate.{Fate}
+use Rattle.model.specs.declared.Fate.the-variants.{Sent, Rejected, PushedOut, Preempted, Flushed}
 use Rattle.model.specs.Record.{Row}
 use Rattle.model.specs.Totals.{mostHeldFrom}
-use Rattle.model.specs.Rules.{Buffer, clear, firstFault, hasFate, isLost}
-use Rattle.model.specs.Answers.{faultNumber}
+use Rattle.model.specs.Rules.{Buffer, clear, firstFault, atFate}
+use Rattle.model.specs.Numbers.{faultNumber}
 use Rattle.audit.specs.declared.Swept.{Swept}
 use Rattle.audit.specs.declared.Swept.the-variants as swept
 
@@ -19,10 +20,15 @@ upTo (s ∷ slots) when = cond (leb s when) (suc (upTo slots when)) 0
 
 -- the place of the first arrival at which a packet is held no more: for one sent or flushed the first after its when, for one lost that named by `by`.
 -- A rejected packet is never held
+abbrev pub leaveFor : List ℕ → Row → Fate → ℕ
+leaveFor slots r Sent = upTo slots (r .when .0)
+leaveFor slots r Rejected = 0
+leaveFor slots r PushedOut = r .by .0 - 1
+leaveFor slots r Preempted = r .by .0 - 1
+leaveFor slots r Flushed = upTo slots (r .when .0)
+
 unfoldable pub leaveOf : List ℕ → Row → ℕ
-leaveOf slots r =
-    cond (hasFate Sent r) (upTo slots (r .when .0))
-    (cond (hasFate Flushed r) (upTo slots (r .when .0)) (cond (isLost r) (r .by .0 - 1) 0))
+leaveOf slots r = atFate 0 r (leaveFor slots r)
 
 -- what the sweep says of the rows: no fault and the most held, or the first fault
 abbrev pub SweptAs : Buffer → List Row → Swept → Type 0

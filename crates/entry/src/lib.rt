@@ -1,7 +1,7 @@
 // A packet's entry in a list that has one for each packet of the trace, and in the three lists of a record.
 ghost use mathlib.Core.Path.{_≡_};
-ghost use lib.ListN.{set};
-ghost use Rattle.model.specs.Packets.{placeOf, slotOf};
+ghost use lib.ListN.{getD, set};
+ghost use Rattle.model.specs.Packets.{placeOf, slotOf, numberOf};
 ghost use Rattle.model.specs.Record.{enter as entering};
 ghost use Rattle.entry.specs.Entry.{lists, entry};
 use model::Fate;
@@ -26,11 +26,25 @@ pub fn place_of(number: PacketNumber) -> usize
 }
 
 // The entry of a list for the packet with this number; 0 where it has none.
-pub fn entry_of(list: &[u32], number: PacketNumber) -> u32
-    ensures { λ r. ⌜ r ≡ slotOf (now (list .entry)) number .0 ⌝ }
+fn entry_of(list: &[u32], number: PacketNumber) -> u32
+    ensures { λ r. ⌜ r ≡ getD (now (list .entry)) (placeOf number) 0 ⌝ }
 {
     let place = place_of(number);
     if place < list.len() { list[place] } else { 0 }
+}
+
+// The slot in which the packet with this number arrives; 0 where the list has none.
+pub fn slot_of(slots: &[u32], number: PacketNumber) -> Slot
+    ensures { λ r. ⌜ r ≡ slotOf (now (slots .entry)) number ⌝ }
+{
+    Slot(entry_of(slots, number))
+}
+
+// The packet number that a list of packet numbers has for the packet with this number; 0 where it has none.
+pub fn number_of(numbers: &[u32], number: PacketNumber) -> PacketNumber
+    ensures { λ r. ⌜ r ≡ numberOf (now (numbers .entry)) number ⌝ }
+{
+    PacketNumber(entry_of(numbers, number))
 }
 
 // Writes the entry of the packet with this number.

@@ -5,11 +5,12 @@ use mathlib.Core.List.{List}
 use lib.ListN.{length}
 use lib.Dec.{leb}
 use Rattle.model.specs.declared.Fate.the-variants.{Sent}
+use Rattle.model.specs.declared.Fault.the-variants.{ByWrong, WhenWrong, NotLater}
 use Rattle.model.specs.declared.PacketNumber.{PacketNumber}
 use Rattle.model.specs.declared.Slot.{Slot}
-use Rattle.model.specs.Record.{Row, fateNumber}
-use Rattle.model.specs.Rules.{Verdict, clear, orElse, verdictIf, hasFate, byWrong, whenWrong}
-use Rattle.model.specs.Answers.{faultNumber}
+use Rattle.model.specs.Record.{Row}
+use Rattle.model.specs.Rules.{Verdict, clear, orElse, faultIf, hasFate, byWrong, whenWrong}
+use Rattle.model.specs.Numbers.{fateNumber, faultNumber}
 use Rattle.faults.specs.declared.Entry.{Entry}
 use Rattle.faults.specs.declared.Found.{Found}
 use Rattle.faults.specs.declared.Found.the-variants as found
@@ -30,9 +31,8 @@ notAfter last r = hasFate Sent r && leb (r .when .0) last
 -- faults 12, 13 and 14 of one packet, `last` being the when of the last sent packet of lower number, 0 where there is none
 abbrev pub entryFault : List ℕ → ℕ → Row → Verdict
 entryFault slots last r =
-    orElse (verdictIf (byWrong (length slots) r) 12 (r .number .0))
-    (orElse (verdictIf (whenWrong slots r) 13 (r .number .0))
-    (verdictIf (notAfter last r) 14 (r .number .0)))
+    orElse (faultIf (byWrong (length slots) r) ByWrong r)
+    (orElse (faultIf (whenWrong slots r) WhenWrong r) (faultIf (notAfter last r) NotLater r))
 
 -- what was found at a packet
 abbrev pub foundOf : Found → PacketNumber → Verdict

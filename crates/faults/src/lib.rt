@@ -5,7 +5,7 @@ ghost use Rattle.model.specs.declared.Fate.the-variants as Fate;
 ghost use Rattle.model.specs.Limits.{within};
 ghost use Rattle.model.specs.Rules.{hasFate, byWrong, whenWrong};
 ghost use Rattle.faults.specs.Faults.{rowOf, lastOf, notAfter, entryFault, foundOf};
-use entry::entry_of;
+use entry::slot_of;
 use model::Fate;
 use model::Fault;
 use model::PacketNumber;
@@ -54,9 +54,9 @@ fn when_wrong(slots: &[u32], entry: Entry) -> bool
     match fate {
         Fate::Sent => entry.when.0 < entry.slot.0,
         Fate::Rejected => entry.when.0 != entry.slot.0,
-        Fate::PushedOut => entry.when.0 != entry_of(slots, entry.by),
-        Fate::Preempted => entry.when.0 != entry_of(slots, entry.by),
-        Fate::Flushed => entry.when.0 < entry_of(slots, entry.by),
+        Fate::PushedOut => entry.when.0 != slot_of(slots, entry.by).0,
+        Fate::Preempted => entry.when.0 != slot_of(slots, entry.by).0,
+        Fate::Flushed => entry.when.0 < slot_of(slots, entry.by).0,
     }
 }
 

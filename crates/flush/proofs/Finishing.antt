@@ -7,6 +7,7 @@ use native.Mathlib.Omega.{arith}
 use lib.ListN.{length, getD}
 use lib.Dec.{ltb}
 use borrow.Author.Tests.{ltb-true, ltb-false}
+use Rattle.model.specs.declared.PacketNumber.{PacketNumber}
 use Rattle.model.specs.declared.Packet.{Packet}
 use Rattle.model.specs.declared.Slot.{Slot}
 use Rattle.model.specs.declared.SlotAnswer.the-variants.{Sent}
@@ -81,20 +82,20 @@ module _ (slot : Slot) (head tail : ℕ) (numbers values : List ℕ) (W : Within
 module _ (room : ℕ) (M : Marking) (slots : List ℕ) (slot : Slot) (queue : List Packet) (marks : List ℕ) where
   -- the marks, the flush by the head's mark and the sending of what stays make the end of a slot
   pub finished : (marks′ : List ℕ) → marks′ ≡ marksAfter room M slots slot (beside queue marks)
-      → (m : ℕ) → m ≡ headMark marks′ queue
+      → (m : PacketNumber) → m ≡ headMark marks′ queue
       → (before between after : Lists) (left w : Window) (numbers values : List ℕ)
       → Stepped (flushing slot m marks′ queue) before left numbers values between
       → Stepped (sendOldest slot (windowOf left numbers values)) between w numbers values after
       → Finished (finishing room M slots slot (beside queue marks)) before w numbers values marks′ after
   unfolding finishing
   finished marks′ marked m by-head before between after left w numbers values F S =
-      let sending : ℕ → List ℕ → List Packet → Step Marked = λ k ms stay.
+      let sending : PacketNumber → List ℕ → List Packet → Step Marked = λ k ms stay.
       let sent = sendOldest slot stay in
       record { entries = flushed slot k ms queue ++ sent .entries; next = beside (sent .next) ms }
       in
       let step : sending m marks′ (windowOf left numbers values) ≡ finishing room M slots slot (beside queue marks) =
       ap (sending m marks′) (F .queue)
-      ∙ ap (λ (k : ℕ). sending k marks′ (unflushed k marks′ queue)) by-head
+      ∙ ap (λ (k : PacketNumber). sending k marks′ (unflushed k marks′ queue)) by-head
       ∙ ap (λ (ms : List ℕ). sending (headMark ms queue) ms (unflushed (headMark ms queue) ms queue)) marked
       in
       let sent = sendOldest slot (windowOf left numbers values) in

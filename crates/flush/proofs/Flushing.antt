@@ -9,6 +9,7 @@ use lib.ListN.{length, take, set, length-set}
 use lib.Seq.{drop-set-lt}
 use lib.Dec.{eqb, leb}
 use borrow.Author.Tests.{eq-eqb, ne-eqb, lt-leb}
+use Rattle.model.specs.declared.PacketNumber.{PacketNumber}
 use Rattle.model.specs.declared.Packet.{Packet}
 use Rattle.model.specs.declared.Slot.{Slot}
 use Rattle.model.specs.declared.Fate.the-variants as fates
@@ -30,7 +31,7 @@ none-stays mark m e = rw (eq-eqb mark 0 e) refl
 pub marked-by : (mark m : ℕ) → (mark ≡ 0 → ⊥) → leb mark m ≡ (not (eqb mark 0) && leb mark m)
 marked-by mark m h = rw (ne-eqb mark 0 h) refl
 
-module _ (m : ℕ) (marks : List ℕ) (p : Packet) (queue : List Packet) where
+module _ (m : PacketNumber) (marks : List ℕ) (p : Packet) (queue : List Packet) where
   goes-on : (t : Bool) → goesWith m marks p ≡ t → unflushed m marks (p ∷ queue) ≡ cond t (unflushed m marks queue) (p ∷ unflushed m marks queue)
   unfolding unflushed
   goes-on t e = rw e refl
@@ -40,7 +41,7 @@ module _ (m : ℕ) (marks : List ℕ) (p : Packet) (queue : List Packet) where
   unfolding flushed
   goes-in slot t e = rw e refl
 
-module _ (m : ℕ) (marks : List ℕ) (slot : Slot) (head tail : ℕ) (numbers₀ values₀ : List ℕ) (before : Lists) where
+module _ (m : PacketNumber) (marks : List ℕ) (slot : Slot) (head tail : ℕ) (numbers₀ values₀ : List ℕ) (before : Lists) where
   pub record Sifting (numbers values : List ℕ) (from to : ℕ) (now : Lists) : Type 0 where
     pub ordered : head ≤ to
     pub behind : to ≤ from
@@ -146,31 +147,35 @@ module _ (m : ℕ) (marks : List ℕ) (slot : Slot) (head tail : ℕ) (numbers�
                 ∙ S .goes;
           }
 
+-- no mark
+abbrev none : PacketNumber
+none = record { 0 = 0 }
+
 -- under a head with no mark nothing goes
-never-goes : (marks : List ℕ) (p : Packet) → goesWith 0 marks p ≡ false
+never-goes : (marks : List ℕ) (p : Packet) → goesWith none marks p ≡ false
 never-goes marks p = go (markOf marks p .0)
   where
     go : (mark : ℕ) → (not (eqb mark 0) && leb mark 0) ≡ false
     go zero = refl
     go (suc mark) = rw (ne-eqb (suc mark) 0 (λ e. omega arith), lt-leb (suc mark) 0 (omega arith)) refl
 
-unflushed-none : (marks : List ℕ) (queue : List Packet) → unflushed 0 marks queue ≡ queue
+unflushed-none : (marks : List ℕ) (queue : List Packet) → unflushed none marks queue ≡ queue
 unfolding unflushed
 unflushed-none marks [] = refl
 unflushed-none marks (p ∷ queue) = rw (never-goes marks p) (ap (λ (rest : List Packet). p ∷ rest) (unflushed-none marks queue))
 
-flushed-none : (slot : Slot) (marks : List ℕ) (queue : List Packet) → flushed slot 0 marks queue ≡ []
+flushed-none : (slot : Slot) (marks : List ℕ) (queue : List Packet) → flushed slot none marks queue ≡ []
 unfolding flushed
 flushed-none slot marks [] = refl
 flushed-none slot marks (p ∷ queue) = rw (never-goes marks p) (flushed-none slot marks queue)
 
-pub nothing-goes : (m : ℕ) (marks : List ℕ) (slot : Slot) (w : Window) (numbers values : List ℕ) (now : Lists) → Within w numbers values → m ≡ 0
+pub nothing-goes : (m : PacketNumber) (marks : List ℕ) (slot : Slot) (w : Window) (numbers values : List ℕ) (now : Lists) → Within w numbers values → m .0 ≡ 0
     → Stepped (flushing slot m marks (windowOf w numbers values)) now w numbers values now
 unfolding entered
 nothing-goes m marks slot w numbers values now W e =
     let queue = windowOf w numbers values in
     record {
       within = W;
-      queue = sym (ap (λ (k : ℕ). unflushed k marks queue) e ∙ unflushed-none marks queue);
-      written = sym (ap (λ (es : List Entry). entered es now) (ap (λ (k : ℕ). flushed slot k marks queue) e ∙ flushed-none slot marks queue));
+      queue = sym (ap (λ (k : ℕ). unflushed (record { 0 = k }) marks queue) e ∙ unflushed-none marks queue);
+      written = sym (ap (λ (es : List Entry). entered es now) (ap (λ (k : ℕ). flushed slot (record { 0 = k }) marks queue) e ∙ flushed-none slot marks queue));
     }

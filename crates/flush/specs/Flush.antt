@@ -2,6 +2,7 @@
 use Prim.Native.Nat.{ℕ}
 use mathlib.Core.Path.{_≡_}
 use mathlib.Core.List.{List}
+use Rattle.model.specs.declared.PacketNumber.{PacketNumber}
 use Rattle.model.specs.declared.Packet.{Packet}
 use Rattle.model.specs.declared.Slot.{Slot}
 use Rattle.model.specs.Record.{Lists, entered}
@@ -13,7 +14,7 @@ use Rattle.steps.specs.Window.{Within, windowOf}
 use Rattle.marks.specs.Mark.{beside}
 
 -- the flush under a head with mark m
-abbrev pub flushing : Slot → ℕ → List ℕ → List Packet → Step (List Packet)
+abbrev pub flushing : Slot → PacketNumber → List ℕ → List Packet → Step (List Packet)
 flushing now m marks queue = record { entries = flushed now m marks queue; next = unflushed m marks queue }
 
 -- a step under MF is done: the window and the marks are what is held after it, and its entries are written

@@ -16,17 +16,17 @@ use model::Slot;
 use steps::Window;
 
 // A packet with this mark is flushed under a head with mark m.
-fn goes_with(mark: u32, m: u32) -> bool
-    ensures { λ r. ⌜ r ≡ (not (eqb mark 0) && leb mark m) ⌝ }
+fn goes_with(mark: PacketNumber, m: PacketNumber) -> bool
+    ensures { λ r. ⌜ r ≡ (not (eqb (mark .0) 0) && leb (mark .0) (m .0)) ⌝ }
 {
-    if mark == 0 {
+    if mark.0 == 0 {
         return false;
     }
-    mark <= m
+    mark.0 <= m.0
 }
 
 // The head's mark, 0 for none.
-pub fn head_mark(numbers: &[u32], values: &[u32], marks: &[u32], w: Window) -> u32
+pub fn head_mark(numbers: &[u32], values: &[u32], marks: &[u32], w: Window) -> PacketNumber
     requires { ⌜ Within w (now numbers) (now values) ⌝ }
     ensures { λ r. ⌜ r ≡ headMark (now (marks .entry)) (windowOf w (now (numbers .entry)) (now (values .entry))) ⌝ }
 {
@@ -40,7 +40,7 @@ pub fn head_mark(numbers: &[u32], values: &[u32], marks: &[u32], w: Window) -> u
             },
         )
     } else {
-        0
+        PacketNumber(0)
     }
 }
 
@@ -53,7 +53,7 @@ fn sift(
     whens: &mut [u32],
     bys: &mut [u32],
     w: Window,
-    m: u32,
+    m: PacketNumber,
     slot: Slot,
 ) -> Window
     requires { ⌜ Within w (now numbers) (now values) ⌝ }
@@ -71,15 +71,7 @@ fn sift(
         from += 1;
         let mark = mark_of(marks, p);
         if goes_with(mark, m) {
-            enter(
-                fates,
-                whens,
-                bys,
-                p.number,
-                Fate::Flushed,
-                slot,
-                PacketNumber(mark),
-            );
+            enter(fates, whens, bys, p.number, Fate::Flushed, slot, mark);
         } else {
             numbers[to] = p.number.0;
             values[to] = p.value;
@@ -98,13 +90,13 @@ pub fn flush(
     whens: &mut [u32],
     bys: &mut [u32],
     w: Window,
-    m: u32,
+    m: PacketNumber,
     slot: Slot,
 ) -> Window
     requires { ⌜ Within w (now numbers) (now values) ⌝ }
     ensures { λ r. ⌜ Stepped (flushing slot m (now (marks .entry)) (windowOf w (now (numbers .entry)) (now (values .entry)))) (lists (now (fates .entry)) (now (whens .entry)) (now (bys .entry))) r (now (numbers .exit)) (now (values .exit)) (lists (now (fates .exit)) (now (whens .exit)) (now (bys .exit))) ⌝ }
 {
-    if m == 0 {
+    if m.0 == 0 {
         return w;
     }
     sift(numbers, values, marks, fates, whens, bys, w, m, slot)

@@ -12,7 +12,7 @@ use Rattle.model.specs.Packets.{Arrival, nobody, slotsUntil, following}
 use Rattle.model.specs.Record.{Entry}
 use Rattle.model.specs.Course.{Step, Policy, Decided, entriesOf, sendOldest, byRule, unlessHeld, andThen, slotEnds, course}
 use Rattle.model.specs.Policies.Greedy.{greedyRule}
-use Rattle.model.specs.Policies.PG.{pgRule}
+use Rattle.laws.proofs.PG.{pgAtOnce}
 use Rattle.model.specs.Policies.MF.{Marking, mfPolicy}
 use Rattle.model.specs.Policies.Plan.{keptRule}
 use Rattle.laws.proofs.Times.{times, times-append, times-none, times-without, ofEntry, ofPacket, timesEntered, timesHeld, timesArriving}
@@ -123,7 +123,7 @@ module _ {S : Type 0} where
 pub conserving-greedy : (room : ℕ) → Conserving (byRule (greedyRule room))
 conserving-greedy room = conserving (fifo-greedy room)
 
-pub conserving-pg : (room : ℕ) (beta : Beta) → Conserving (byRule (pgRule room beta))
+pub conserving-pg : (room : ℕ) (beta : Beta) → Conserving (byRule (pgAtOnce room beta))
 conserving-pg room beta = conserving (fifo-pg room beta)
 
 pub conserving-kept : (kept : List ℕ) → Conserving (byRule (keptRule kept))

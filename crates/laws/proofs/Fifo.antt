@@ -16,7 +16,8 @@ use Rattle.model.specs.Packets.{Arrival, nobody, valuesOf}
 use Rattle.model.specs.Record.{Entry, flushedAt}
 use Rattle.model.specs.Course.{Policy, Decided, held, rejected, losing, entriesOf, sendOldest, byRule}
 use Rattle.model.specs.Policies.Greedy.{without, loserAt, greedyRule}
-use Rattle.model.specs.Policies.PG.{preemptedAt, pgRule}
+use Rattle.model.specs.Policies.PG.{preemptedAt}
+use Rattle.laws.proofs.PG.{pgAtOnce}
 use Rattle.model.specs.Policies.MF.{Marking, markOf, goesWith, flushed, unflushed, headMark, marksAfter, mfPolicy}
 use Rattle.model.specs.Policies.Plan.{keptOf, keptRule}
 use Rattle.laws.proofs.Cases.{cond-cases, below-cases}
@@ -79,8 +80,8 @@ module _ (queue : List Packet) (p : Packet) where
       cond-cases (Fair queue p) (ltb (length queue) room) _ _ (λ e. holds)
       λ e. below-cases (Fair queue p) loser (length queue) _ _ (λ b. loses loser PushedOut b) (λ b. rejects)
 
-  pub pg-fair : (room : ℕ) (beta : Beta) → Fair queue p (pgRule room beta queue p)
-  unfolding pgRule
+  pub pg-fair : (room : ℕ) (beta : Beta) → Fair queue p (pgAtOnce room beta queue p)
+  unfolding pgAtOnce
   pg-fair room beta =
       let place = preemptedAt beta (p .value) (valuesOf queue) in
       below-cases (Fair queue p) place (length queue) _ _ (λ b. loses place Preempted b) (λ b. greedy-fair room)
@@ -89,7 +90,7 @@ module _ (queue : List Packet) (p : Packet) where
   unfolding keptRule
   kept-fair kept = cond-cases (Fair queue p) (eqb (keptOf kept (p .number)) 1) _ _ (λ e. holds) (λ e. rejects)
 
-pub flush-parted : (now : Slot) (m : ℕ) (marks : List ℕ) (queue : List Packet) → Parted now queue (flushed now m marks queue) (unflushed m marks queue)
+pub flush-parted : (now : Slot) (m : PacketNumber) (marks : List ℕ) (queue : List Packet) → Parted now queue (flushed now m marks queue) (unflushed m marks queue)
 unfolding flushed unflushed
 flush-parted now m marks [] = none
 flush-parted now m marks (p ∷ queue) = go (goesWith m marks p) (flush-parted now m marks queue)
@@ -104,8 +105,8 @@ flush-parted now m marks (p ∷ queue) = go (goesWith m marks p) (flush-parted n
 abbrev pub fifo-greedy : (room : ℕ) → Fifo (byRule (greedyRule room))
 fifo-greedy room = fifo-byRule (greedyRule room) (λ queue p. greedy-fair queue p room)
 
-abbrev pub fifo-pg : (room : ℕ) (beta : Beta) → Fifo (byRule (pgRule room beta))
-fifo-pg room beta = fifo-byRule (pgRule room beta) (λ queue p. pg-fair queue p room beta)
+abbrev pub fifo-pg : (room : ℕ) (beta : Beta) → Fifo (byRule (pgAtOnce room beta))
+fifo-pg room beta = fifo-byRule (pgAtOnce room beta) (λ queue p. pg-fair queue p room beta)
 
 abbrev pub fifo-kept : (kept : List ℕ) → Fifo (byRule (keptRule kept))
 fifo-kept kept = fifo-byRule (keptRule kept) (λ queue p. kept-fair queue p kept)

@@ -14,7 +14,7 @@ use Rattle.model.specs.Totals.{mostHeldFrom}
 use Rattle.model.specs.Course.{Policy, Decided, byRule, course, first}
 use Rattle.model.specs.Refusals.{valueOk, plainRefusal, pgRefusal}
 use Rattle.model.specs.Policies.Greedy.{greedyRule}
-use Rattle.model.specs.Policies.PG.{pgRule}
+use Rattle.model.specs.Policies.PG.{pgRule, pgRun}
 use Rattle.model.specs.Policies.Plan.{planKept, keptRule}
 use Rattle.laws.proofs.Fifo.{Fair, Fifo, fifo-byRule, greedy-fair, pg-fair, kept-fair}
 use Rattle.laws.proofs.Conserving.{conserving, conserving-greedy, conserving-pg}
@@ -26,7 +26,9 @@ use Rattle.laws.proofs.Standing.{Marks, Stands, course-since}
 use Rattle.laws.proofs.Held.{mostQueue, HeldAgrees, held-agrees, mostHeld-mostQueue}
 use Rattle.laws.proofs.Sends.{course-sends}
 use Rattle.laws.proofs.Obeys.{obeysFrom}
-use Rattle.laws.proofs.Room.{mostQueue-roomy, roomy-greedy, roomy-pg, mostQueue-plan}
+use Rattle.laws.proofs.PG.{pgAtOnce, pg-at-once, at-once-roomy, pg-run}
+use Rattle.laws.proofs.AgreeHeld.{most-same, held-same}
+use Rattle.laws.proofs.Room.{mostQueue-roomy, roomy-greedy, roomy-at-once, mostQueue-plan}
 use Rattle.laws.proofs.Accepted.{Accepted, plain-accepted, pg-accepted}
 
 -- a policy's run on a trace, from the state s
@@ -76,10 +78,26 @@ module _ (slots values : List ℕ) (room : ℕ) (lists : Lists) where
       by-rule (greedyRule room) (λ queue p. greedy-fair queue p room) (plain-accepted slots values room lists z)
       (mostQueue-roomy (conserving-greedy room) room (roomy-greedy room) first [] (arrivals slots values) (omega arith))
 
+  pub lawful-at-once : (beta : Beta) → pgRefusal beta slots values room lists .number ≡ 0 → Lawful (byRule (pgAtOnce room beta)) [] slots values room
+  lawful-at-once beta z =
+      by-rule (pgAtOnce room beta) (λ queue p. pg-fair queue p room beta) (pg-accepted slots values room lists beta z)
+      (mostQueue-roomy (conserving-pg room beta) room (roomy-at-once room beta) first [] (arrivals slots values) (omega arith))
+
+  -- PG decides as that on every queue that it has
   pub lawful-pg : (beta : Beta) → pgRefusal beta slots values room lists .number ≡ 0 → Lawful (byRule (pgRule room beta)) [] slots values room
   lawful-pg beta z =
-      by-rule (pgRule room beta) (λ queue p. pg-fair queue p room beta) (pg-accepted slots values room lists beta z)
-      (mostQueue-roomy (conserving-pg room beta) room (roomy-pg room beta) first [] (arrivals slots values) (omega arith))
+      let trace = arrivals slots values in
+      let L = lawful-at-once beta z in
+      let run = pg-run room beta trace in
+      let most = most-same room (pgRule room beta) (pgAtOnce room beta) (pg-at-once room beta) (at-once-roomy room beta) first [] trace (omega arith) in
+      record {
+        held = held-same room (pgRule room beta) (pgAtOnce room beta) (pg-at-once room beta) (at-once-roomy room beta) first [] []
+            (recorded slots values (pgRun room beta trace)) trace (omega arith)
+            (rw run (L .held));
+        most = rw (run, most) (L .most);
+        within-room = rw most (L .within-room);
+        obeys = rw run (L .obeys);
+      }
 
   pub lawful-plan : plainRefusal slots values room lists .number ≡ 0 →
       Lawful (byRule (keptRule (planKept room (arrivals slots values)))) [] slots values room

@@ -76,7 +76,7 @@ module _ (last : ℕ) where
       (λ e. fit))
 
   -- who is flushed has a mark
-  flushed-fits : (now : Slot) (m low : ℕ) (marks : List ℕ) (queue : List Packet) → Rising low last queue → MarksFit last marks →
+  flushed-fits : (now : Slot) (m : PacketNumber) (low : ℕ) (marks : List ℕ) (queue : List Packet) → Rising low last queue → MarksFit last marks →
       All (FlushedBy now last) (flushed now m marks queue)
   unfolding flushed
   flushed-fits now m low marks [] rising fit = tt
@@ -86,7 +86,7 @@ module _ (last : ℕ) where
       go : (t : Bool) → goesWith m marks p ≡ t → All (FlushedBy now last) (flushed now m marks queue) →
           All (FlushedBy now last) (cond t (flushedAt now (markOf marks p) p ∷ flushed now m marks queue) (flushed now m marks queue))
       go true e rest =
-          let marked = and-eq-true-iff (isMarked marks p) (leb (markOf marks p .0) m) .0 e .0 in
+          let marked = and-eq-true-iff (isMarked marks p) (leb (markOf marks p .0) (m .0)) .0 e .0 in
           let mark = fit (placeOf (p .number)) (eqb-false (markOf marks p .0) 0 (not-true _ marked)) in
           (record { fate = refl; when = refl; older = omega (arith, mark .0, rising .0); marked = mark .1 }, rest)
       go false e rest = rest

@@ -1,17 +1,21 @@
 -- What follows from the definitions of model, said once for every policy.
+pub mod Fates
 pub mod FirstFault
 pub mod Cases
 pub mod Times
+pub mod Roomy
+pub mod Agree
+pub mod PG
 pub mod Fifo
 pub mod Conserving
 pub mod Entered
 pub mod WellFormed
-pub mod PG
 pub mod Rising
 pub mod All
 pub mod Moments
 pub mod Standing
 pub mod Held
+pub mod AgreeHeld
 pub mod Sends
 pub mod Obeys
 pub mod Room

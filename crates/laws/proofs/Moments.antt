@@ -2,8 +2,8 @@
 -- and 13; by fault 15's count its packet, if it had arrived, is held at the first of the two moments, and at the second it is not.
 use Prim.Native.Nat.{ℕ, suc, _-_, _≤_, _<_}
 use native.Mathlib.Omega.{arith}
-use mathlib.Core.Path.{_≡_, refl, sym}
-use mathlib.Core.Bool.{Bool, true, false, _&&_, _||_}
+use mathlib.Core.Path.{_≡_, refl, sym, _∙_}
+use mathlib.Core.Bool.{Bool, true, false}
 use mathlib.Core.List.{List}
 use lib.ListN.{length, getD}
 use lib.Dec.{leb, ltb, eqb}
@@ -17,7 +17,8 @@ use Rattle.model.specs.declared.Slot.{Slot}
 use Rattle.model.specs.Limits.{within}
 use Rattle.model.specs.Packets.{Arrival, slotOf}
 use Rattle.model.specs.Record.{fateNumber, Entry, sentAt, rejectedAt, lostTo, Row}
-use Rattle.model.specs.Rules.{hasFate, byWrong, whenWrong, isHeldAt}
+use Rattle.model.specs.Rules.{hasFate, atFate, byWrong, whenWrong, isHeldFor, isHeldAt}
+use Rattle.laws.proofs.Fates.{at-fate}
 
 -- held at a moment, by fate: sent or flushed with when not before the slot, or lost with by after the last that has arrived
 abbrev heldAs : Fate → Bool → Bool → Bool
@@ -33,18 +34,15 @@ heldBy now last e = heldAs (e .fate) (leb now (e .when .0)) (ltb last (e .by .0)
 -- fault 15 counts a row by its entry
 pub isHeldAt-heldBy : (at r : Row) (e : Entry) → r .fate ≡ fateNumber (e .fate) → r .when .0 ≡ e .when .0 → r .by .0 ≡ e .by .0 →
     isHeldAt at r ≡ heldBy (at .slot .0) (at .number .0) e
-unfolding isHeldAt hasFate heldBy
-isHeldAt-heldBy at r e f w b = rw (f, w, b) (go (e .fate) (leb (at .slot .0) (e .when .0)) (ltb (at .number .0) (e .by .0)))
+unfolding isHeldAt heldBy
+isHeldAt-heldBy at r e f w b = at-fate (e .fate) false r (isHeldFor at r) f ∙ go (e .fate)
   where
-    go : (f : Fate) (still later : Bool) →
-        ((eqb (fateNumber f) 1 || eqb (fateNumber f) 5) && still || (eqb (fateNumber f) 3 || eqb (fateNumber f) 4) && later) ≡ heldAs f still later
-    go Sent true later = refl
-    go Sent false later = refl
-    go Rejected still later = refl
-    go PushedOut still later = refl
-    go Preempted still later = refl
-    go Flushed true later = refl
-    go Flushed false later = refl
+    go : (f : Fate) → isHeldFor at r f ≡ heldAs f (leb (at .slot .0) (e .when .0)) (ltb (at .number .0) (e .by .0))
+    go Sent = rw w
+    go Rejected = refl
+    go PushedOut = rw b
+    go Preempted = rw b
+    go Flushed = rw w
 
 -- who is held at a moment was held before, who is not held at a moment is not held after
 heldAs-before : (f : Fate) (now now′ last last′ when by : ℕ) → now ≤ now′ → last ≤ last′ →
@@ -115,7 +113,7 @@ pub record Arrived (slots : List ℕ) (now last : ℕ) : Type 0 where
 module _ (slots : List ℕ) (last : ℕ) (at : Slot) (A : Arrived slots (at .0) last) where
   pub sent-between : (now till : ℕ) (p : Packet) → now ≤ at .0 → at .0 < till → 0 < p .number .0 → p .number .0 ≤ last →
       Between slots now last till last (sentAt at p)
-  unfolding heldBy byWrong whenWrong hasFate
+  unfolding heldBy byWrong whenWrong atFate hasFate
   sent-between now till p from before low high =
       record {
         since = record {
@@ -127,7 +125,7 @@ module _ (slots : List ℕ) (last : ℕ) (at : Slot) (A : Arrived slots (at .0) 
       }
 
   pub flushed-between : (now till : ℕ) (e : Entry) → now ≤ at .0 → at .0 < till → FlushedBy at last e → Between slots now last till last e
-  unfolding heldBy byWrong whenWrong hasFate within
+  unfolding heldBy byWrong whenWrong atFate hasFate within
   flushed-between now till e from before h =
       record {
         since = record {
@@ -150,7 +148,7 @@ module _ (slots : List ℕ) (now last : ℕ) (a : Arrival) (N : Next slots now l
   its-slot = let place : a .packet .number .0 - 1 ≡ last = omega (arith, N .number) in rw place (sym (N .slot))
 
   pub rejected-between : Between slots (a .slot .0) last (a .slot .0) (suc last) (rejectedAt a)
-  unfolding heldBy byWrong whenWrong hasFate
+  unfolding heldBy byWrong whenWrong atFate hasFate
   rejected-between =
       record {
         since = record {
@@ -163,7 +161,7 @@ module _ (slots : List ℕ) (now last : ℕ) (a : Arrival) (N : Next slots now l
 
   pub lost-between : (p : Packet) (kind : LossKind) → p .number .0 ≤ last →
       Between slots (a .slot .0) last (a .slot .0) (suc last) (lostTo a (record { packet = p; kind = kind }))
-  unfolding heldBy byWrong whenWrong hasFate within
+  unfolding heldBy byWrong whenWrong atFate hasFate within
   lost-between p kind h =
       go kind
       (le-leb (suc (p .number .0)) (a .packet .number .0) (omega (arith, N .number)))

@@ -8,7 +8,7 @@ use lib.ListN.{length}
 use borrow.Author.Tests.{le-ltb}
 use Rattle.model.specs.Packets.{Arrival}
 use Rattle.model.specs.Record.{fateNumber, Entry, Row}
-use Rattle.model.specs.Rules.{Faultless, ObeysFrom, hasFate, fateOutside, byWrong, whenWrong, notLater, overRoom, heldAfter}
+use Rattle.model.specs.Rules.{Faultless, ObeysFrom, hasFate, atFate, fateOutside, byWrong, whenWrong, notLater, overRoom, heldAfter}
 use Rattle.model.specs.Totals.{mostHeldFrom}
 use Rattle.laws.proofs.Cases.{eqb-cases}
 use Rattle.laws.proofs.Entered.{entryOf, EnteredOnce, rowsBy}
@@ -29,11 +29,11 @@ module _ (slots : List ℕ) (room : ℕ) (entries : List Entry) (O : EnteredOnce
     its-number = entryOf-number (suc last) entries (omega (arith, O .once last (N .counted)))
 
     by-is-right : byWrong (length slots) (nextRow entries a) ≡ false
-    unfolding byWrong hasFate
+    unfolding byWrong atFate hasFate
     by-is-right = rw (N .number) (rw its-number at (its-entry .by-right))
 
     when-is-right : whenWrong slots (nextRow entries a) ≡ false
-    unfolding whenWrong hasFate
+    unfolding whenWrong atFate hasFate
     when-is-right =
         let place : suc last - 1 ≡ last = omega arith in
         rw (N .number, N .slot) (rw (its-number, place) at (its-entry .when-right))

@@ -1,25 +1,26 @@
 -- No policy holds more than room just after an arrival. Plain greedy takes a packet in only where there is room or another is lost, PG and MF likewise, and
 -- the plan keeps a packet only if all that it has kept fits.
-use Prim.Native.Nat.{ℕ, zero, suc, _+_, _-_, _≤_, _<_}
+use Prim.Native.Nat.{ℕ, zero, suc, _+_, _-_, _≤_}
 use native.Mathlib.Omega.{arith}
 use mathlib.Core.Path.{_≡_, refl}
 use mathlib.Core.Bool.{true, and-eq-true-iff}
-use mathlib.Core.List.{List, [], _∷_, _++_}
+use mathlib.Core.List.{List, [], _∷_}
 use lib.ListN.{length, getD, replicate, length-append}
 use lib.Dec.{leb}
 use borrow.Author.Tests.{leb-true, le-leb}
 use Rattle.model.specs.declared.Beta.{Beta}
 use Rattle.model.specs.declared.Packet.{Packet}
 use Rattle.model.specs.declared.Slot.{Slot}
-use Rattle.model.specs.Packets.{Arrival, valuesOf, slotsUntil, placeOf}
-use Rattle.model.specs.Course.{Policy, Decided, held, byRule, slotEnds, first}
-use Rattle.model.specs.Policies.Greedy.{without, loserAt, greedyRule}
-use Rattle.model.specs.Policies.PG.{preemptedAt, pgRule}
+use Rattle.model.specs.Packets.{Arrival, slotsUntil, placeOf}
+use Rattle.model.specs.Course.{Policy, byRule, slotEnds, first}
+use Rattle.model.specs.Policies.Greedy.{greedyRule}
+use Rattle.model.specs.Policies.PG.{pgRule}
 use Rattle.model.specs.Policies.MF.{Marking, mfPolicy}
 use Rattle.model.specs.Policies.Plan.{keptOf, keep, fitsFrom, fits, keepInTurn, byFallingValue, planKept, keptRule}
-use Rattle.laws.proofs.Times.{length-without}
+use Rattle.laws.proofs.Roomy.{greedy-roomy}
+use Rattle.laws.proofs.PG.{pgAtOnce, pg-at-once, at-once-roomy}
 use Rattle.laws.proofs.Conserving.{Conserving, slotEnds-shorter, conserving-kept}
-use Rattle.laws.proofs.Cases.{eqb-cases, cond-cases, below-cases}
+use Rattle.laws.proofs.Cases.{eqb-cases, cond-cases}
 use Rattle.laws.proofs.Standing.{turn}
 use Rattle.laws.proofs.Held.{mostQueue}
 
@@ -36,29 +37,14 @@ mostQueue-roomy {P} C room R now s (a ∷ trace) h =
     let here = R a (before .next) (omega (arith, slotEnds-shorter C (slotsUntil now (a .slot)) now s)) in
     omega (arith, mostQueue-roomy C room R (a .slot) (turn P now s a .next) trace here)
 
-module _ (room : ℕ) (queue : List Packet) (p : Packet) (h : length queue ≤ room) where
-  -- a packet lost makes room for the arrival
-  loses-roomy : (place : ℕ) → place < length queue → length (without place queue ++ p ∷ []) ≤ room
-  loses-roomy place b = omega (arith, length-append (without place queue) (p ∷ []), length-without place queue b)
-
-  greedy-roomy : length (greedyRule room queue p .queue) ≤ room
-  unfolding greedyRule
-  greedy-roomy =
-      let loser = loserAt (valuesOf (queue ++ p ∷ [])) in
-      below-cases (λ (d : Decided). length (d .queue) ≤ room) (length queue) room _ _ (λ b. omega (arith, length-append queue (p ∷ [])))
-      λ full. below-cases (λ (d : Decided). length (d .queue) ≤ room) loser (length queue) _ _ (loses-roomy loser) (λ b. h)
-
-  pg-roomy : (beta : Beta) → length (pgRule room beta queue p .queue) ≤ room
-  unfolding pgRule
-  pg-roomy beta =
-      let place = preemptedAt beta (p .value) (valuesOf queue) in
-      below-cases (λ (d : Decided). length (d .queue) ≤ room) place (length queue) _ _ (loses-roomy place) (λ b. greedy-roomy)
-
 pub roomy-greedy : (room : ℕ) → Roomy room (byRule (greedyRule room))
 roomy-greedy room a queue h = greedy-roomy room queue (a .packet) h
 
+pub roomy-at-once : (room : ℕ) (beta : Beta) → Roomy room (byRule (pgAtOnce room beta))
+roomy-at-once room beta a queue h = at-once-roomy room beta queue (a .packet) h
+
 pub roomy-pg : (room : ℕ) (beta : Beta) → Roomy room (byRule (pgRule room beta))
-roomy-pg room beta a queue h = pg-roomy room queue (a .packet) h beta
+roomy-pg room beta a queue h = rw (pg-at-once room beta queue (a .packet) h) (at-once-roomy room beta queue (a .packet) h)
 
 pub roomy-mf : (room : ℕ) (M : Marking) (slots : List ℕ) → Roomy room (mfPolicy room M slots)
 roomy-mf room M slots a s h = greedy-roomy room (s .queue) (a .packet) h

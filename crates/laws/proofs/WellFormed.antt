@@ -24,6 +24,7 @@ use Rattle.model.specs.Policies.Plan.{planKept, planRun}
 use Rattle.laws.proofs.Times.{times, timesArriving}
 use Rattle.laws.proofs.Conserving.{Conserving, course-conserves, conserving-greedy, conserving-pg, conserving-kept, conserving-mf}
 use Rattle.laws.proofs.Cases.{eqb-cases}
+use Rattle.laws.proofs.PG.{pg-run}
 use Rattle.laws.proofs.Entered.{EnteredOnce, Sized, blank-sized, entered-sized, entered-says, entered-all, entryOf, rowOf, rowsBy, recorded, rows-said}
 
 -- the five tallies of a record add up to a sixth, by whatever is counted
@@ -146,7 +147,7 @@ module _ (slots values : List ℕ) (l : length values ≡ length slots) where
   once-greedy room = course-once (conserving-greedy room) slots values l first [] refl
 
   pub once-pg : (room : ℕ) (beta : Beta) → EnteredOnce (length slots) (pgRun room beta (arrivals slots values))
-  once-pg room beta = course-once (conserving-pg room beta) slots values l first [] refl
+  once-pg room beta = rw (pg-run room beta (arrivals slots values)) (course-once (conserving-pg room beta) slots values l first [] refl)
 
   pub once-plan : (room : ℕ) → EnteredOnce (length slots) (planRun room (arrivals slots values))
   once-plan room = course-once (conserving-kept (planKept room (arrivals slots values))) slots values l first [] refl

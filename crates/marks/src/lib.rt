@@ -5,8 +5,9 @@ ghost use Rattle.trace.specs.Checked.{markingOf};
 ghost use Rattle.steps.specs.Window.{windowOf};
 ghost use Rattle.steps.specs.Guarded.{Guarded, liesWithin};
 ghost use Rattle.marks.specs.Mark.{beside};
-use entry::entry_of;
+use entry::number_of;
 use model::Packet;
+use model::PacketNumber;
 use model::Slot;
 use steps::Window;
 use steps::moves::lies_within;
@@ -14,10 +15,10 @@ use steps::moves::lies_within;
 mod step;
 
 // The number of the packet that marked a packet, 0 for none.
-pub fn mark_of(marks: &[u32], p: Packet) -> u32
-    ensures { λ r. ⌜ r ≡ markOf (now (marks .entry)) p .0 ⌝ }
+pub fn mark_of(marks: &[u32], p: Packet) -> PacketNumber
+    ensures { λ r. ⌜ r ≡ markOf (now (marks .entry)) p ⌝ }
 {
-    entry_of(marks, p.number)
+    number_of(marks, p.number)
 }
 
 // The marks after a slot's arrivals; as before, where the window does not lie within its lists.

@@ -9,9 +9,9 @@ ghost use Rattle.trace.specs.Checked.{markingOf};
 ghost use Rattle.steps.specs.Window.{windowOf, Within};
 ghost use Rattle.marks.specs.Mark.{packetIn, olderThan, markedBy, beside};
 use crate::mark_of;
-use entry::entry_of;
 use entry::place_of;
 use entry::put;
+use entry::slot_of;
 use model::Packet;
 use model::PacketNumber;
 use model::Slot;
@@ -24,7 +24,7 @@ fn takes_mark(marks: &[u32], p: Packet, lo: u32) -> bool
     if p.value != lo {
         return false;
     }
-    mark_of(marks, p) == 0
+    mark_of(marks, p).0 == 0
 }
 
 // A hi packet that arrived in this slot.
@@ -34,7 +34,7 @@ fn gives_marks(slots: &[u32], p: Packet, hi: u32, slot: Slot) -> bool
     if p.value != hi {
         return false;
     }
-    entry_of(slots, p.number) == slot.0
+    slot_of(slots, p.number).0 == slot.0
 }
 
 // Marks up to r unmarked lo packets of the first n from `head` on, stepping down from the newest of them.

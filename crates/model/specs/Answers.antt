@@ -4,10 +4,6 @@ use Prim.Native.Nat.{ℕ}
 use Rattle.model.specs.declared.PacketNumber.{PacketNumber}
 use Rattle.model.specs.declared.Packet.{Packet}
 use Rattle.model.specs.declared.Totals.{Totals}
-use Rattle.model.specs.declared.Cause.{Cause}
-use Rattle.model.specs.declared.Cause.the-variants as causes
-use Rattle.model.specs.declared.Fault.{Fault}
-use Rattle.model.specs.declared.Fault.the-variants as faults
 use Rattle.model.specs.declared.Fate.the-variants as fates
 use Rattle.model.specs.declared.RunAnswer.{RunAnswer}
 use Rattle.model.specs.declared.RunAnswer.the-variants as run
@@ -20,28 +16,10 @@ use Rattle.model.specs.declared.SlotAnswer.the-variants as slot
 use Rattle.model.specs.declared.MakingAnswer.{MakingAnswer}
 use Rattle.model.specs.declared.MakingAnswer.the-variants as making
 use Rattle.model.specs.Packets.{nobody}
-use Rattle.model.specs.Record.{fateNumber, lossFate}
+pub use Rattle.model.specs.Numbers.{causeNumber, faultNumber}
+use Rattle.model.specs.Numbers.{fateNumber}
+use Rattle.model.specs.Record.{lossFate}
 use Rattle.model.specs.Totals.{noTotals}
-
--- the number of each refusal
-abbrev pub causeNumber : Cause → ℕ
-causeNumber causes.Lengths = 1
-causeNumber causes.Packets = 2
-causeNumber causes.Room = 3
-causeNumber causes.Parameters = 4
-causeNumber causes.Slot = 5
-causeNumber causes.Value = 6
-causeNumber causes.Spent = 7
-causeNumber causes.Unsound = 8
-causeNumber causes.Text = 21
-
--- the number of each fault
-abbrev pub faultNumber : Fault → ℕ
-faultNumber faults.FateOutside = 11
-faultNumber faults.ByWrong = 12
-faultNumber faults.WhenWrong = 13
-faultNumber faults.NotLater = 14
-faultNumber faults.OverRoom = 15
 
 -- what a call on a trace says: 0, or a refusal's or a fault's number with its place; and the totals, zero throughout where there are none
 pub record Reply : Type 0 where
@@ -58,12 +36,16 @@ ofAudit (audit.Passed t) = record { number = 0; place = 0; totals = t }
 ofAudit (audit.Faulty f) = record { number = faultNumber (f .fault); place = f .packet .0; totals = noTotals }
 ofAudit (audit.Refused f) = record { number = causeNumber (f .cause); place = f .place; totals = noTotals }
 
--- what a live call says: a fate's number, 0 (held, idle, made), or a refusal's with its place; the number that the arrival was given; and the packet
--- that was lost or sent. Zeros where there is none
+-- what a live call says, zeros where there is none of these
 pub record PortReply : Type 0 where
+  -- a refusal's number; 0 for an arrival held at no cost, an idle slot and a made port; else the number of a fate, and whose it is:
+  -- 2 rejected, the arrival's own; 3 pushed out and 4 preempted, that of `packet`, lost to the arrival, which is held; 1 sent, that of `packet`
   pub number : ℕ
+  -- the refusal's place
   pub place : ℕ
+  -- the number that the arrival was given
   pub given : PacketNumber
+  -- the packet that was lost or sent
   pub packet : Packet
 
 -- a refusal of a live call

@@ -1,5 +1,5 @@
 -- 01, 'Numbers to check by hand': P1 to P12. A row is a call with its arguments and its full answer: the reply, and what the three lists hold afterwards.
--- Before each call of a policy the lists hold 7 throughout. One computed test over the table proves all rows.
+-- Before each call of a policy the lists hold 7 throughout. One computed test over the table proves all rows. How a row is written serves Idle.antt too.
 use Prim.Native.Nat.{ℕ}
 use mathlib.Core.Path.{_≡_, refl}
 use mathlib.Core.List.{List, [], _∷_, map}
@@ -14,13 +14,13 @@ use Rattle.model.specs.Policies.Greedy.{belowAll, loserAt, greedyRule}
 use Rattle.model.specs.Policies.PG.{preemptedAt, pgRule}
 use Rattle.model.specs.Policies.MF.{Marking, markDown, markFrom, flushed, unflushed}
 use Rattle.model.specs.Policies.Plan.{insert, byFallingValue, fitsFrom, keepInTurn, keptRule}
-use Rattle.model.specs.Rules.{hasFate, countOf, fateOutside, byWrong, whenWrong, notAfterLast, notLater, isHeldAt, overRoom, orElse, faultAt, firstFaultFrom}
+use Rattle.model.specs.Rules.{hasFate, atFate, countOf, fateOutside, byWrong, whenWrong, notAfterLast, notLater, isHeldAt, overRoom, orElse, faultAt, firstFaultFrom}
 use Rattle.model.specs.Totals.{valueOf, mostHeldFrom, nothing, noTotals}
 use Rattle.model.specs.Refusals.{packetRefusalFrom, plainRefusal, pgRefusal, mfRefusal}
 use Rattle.model.specs.Calls.{Outcome, runUnless, greedyCall, pgCall, mfCall, planCall, auditCall}
 
 -- a call: its slots, its values, its room and its own parameters
-data Call : Type 0 where
+pub data Call : Type 0 where
   greedy : List ℕ → List ℕ → ℕ → Call
   pg : List ℕ → List ℕ → ℕ → Beta → Call
   mf : List ℕ → List ℕ → ℕ → Marking → Call
@@ -28,31 +28,31 @@ data Call : Type 0 where
   audit : List ℕ → List ℕ → ℕ → Lists → Call
 
 -- what the lists of n packets hold before a call
-before : ℕ → Lists
+unfoldable pub before : ℕ → Lists
 before n = record { fates = replicate n 7; whens = replicate n 7; bys = replicate n 7 }
 
-answer : Call → Outcome
+unfoldable pub answer : Call → Outcome
 answer (greedy slots values room) = greedyCall slots values room (before (length slots))
 answer (pg slots values room beta) = pgCall slots values room beta (before (length slots))
 answer (mf slots values room M) = mfCall slots values room M (before (length slots))
 answer (plan slots values room) = planCall slots values room (before (length slots))
 answer (audit slots values room lists) = record { reply = auditCall slots values room lists; lists = lists }
 
-record Example : Type 0 where
-  call : Call
-  gives : Outcome
+pub record Example : Type 0 where
+  pub call : Call
+  pub gives : Outcome
 
 -- fate/when/by
-record Said : Type 0 where
-  fate : ℕ
-  when : ℕ
-  by : ℕ
+pub record Said : Type 0 where
+  pub fate : ℕ
+  pub when : ℕ
+  pub by : ℕ
 
 infix 80 _/_/_
-_/_/_ : ℕ → ℕ → ℕ → Said
+unfoldable pub _/_/_ : ℕ → ℕ → ℕ → Said
 f / w / b = record { fate = f; when = w; by = b }
 
-listsOf : List Said → Lists
+unfoldable pub listsOf : List Said → Lists
 listsOf said =
     record {
       fates = map (λ (s : Said). s .fate) said;
@@ -62,11 +62,11 @@ listsOf said =
 
 -- so many packets, worth so much
 infix 80 _#_
-_#_ : ℕ → ℕ → Tally
+unfoldable pub _#_ : ℕ → ℕ → Tally
 n # v = record { count = n; value = v }
 
 -- an accepted run: its record, then arrived, sent, rejected, pushed out, preempted, flushed, most held
-accepted : List Said → Tally → Tally → Tally → Tally → Tally → Tally → ℕ → Outcome
+unfoldable pub accepted : List Said → Tally → Tally → Tally → Tally → Tally → Tally → ℕ → Outcome
 accepted said arrived sent rejected pushedOut preempted flushed most =
     record {
       reply = record {
@@ -115,8 +115,12 @@ p11 : Lists
 p11 = listsOf (1 / 1 / 0 ∷ 1 / 1 / 0 ∷ 2 / 1 / 3 ∷ [])
 
 infix 10 _gives_
-_gives_ : Call → Outcome → Example
+unfoldable pub _gives_ : Call → Outcome → Example
 c gives o = record { call = c; gives = o }
+
+-- every row of a table holds
+abbrev pub AllHold : List Example → Type 0
+AllHold rows = map (λ (e : Example). answer (e .call)) rows ≡ map (λ (e : Example). e .gives) rows
 
 table : List Example
 table =
@@ -158,11 +162,10 @@ table =
     ∷ (greedy (2 ∷ 1 ∷ []) (3 ∷ 3 ∷ []) 2 gives stopped 5 2 (before 2))
     ∷ []
 
--- every row of the table holds
-by-hand : map (λ (e : Example). answer (e .call)) table ≡ map (λ (e : Example). e .gives) table
+by-hand : AllHold table
 unfolding table answer before _/_/_ listsOf _#_ accepted stopped empty ones threes benchSlots benchValues p10 p11 _gives_
     within arrivalsFrom entered rowsOf slotEnds course belowAll loserAt greedyRule preemptedAt pgRule markDown markFrom flushed unflushed
-    insert byFallingValue fitsFrom keepInTurn keptRule hasFate countOf fateOutside byWrong whenWrong notAfterLast notLater isHeldAt overRoom
+    insert byFallingValue fitsFrom keepInTurn keptRule hasFate atFate countOf fateOutside byWrong whenWrong notAfterLast notLater isHeldAt overRoom
     orElse faultAt firstFaultFrom valueOf mostHeldFrom packetRefusalFrom plainRefusal pgRefusal mfRefusal runUnless greedyCall pgCall mfCall
     planCall auditCall
 by-hand = refl

@@ -29,13 +29,12 @@ abbrev pub unlessHeld : {S : Type 0} → List Packet → Step S → Step S → S
 unlessHeld [] quiet busy = quiet
 unlessHeld (p ∷ queue) quiet busy = busy
 
--- the ends of n slots from now on. Where nothing is held nothing happens in any of them
+-- the ends of n slots from now on. Where nothing is held nothing happens in any of them; else this slot ends, and then the others
 unfoldable pub slotEnds : {S : Type 0} → Policy S → ℕ → Slot → S → Step S
 slotEnds P zero now s = record { entries = []; next = s }
 slotEnds P (suc n) now s =
-    let end = P .finish now s in
-    let busy = andThen (end .entries) (slotEnds P n (following now) (end .next)) in
-    unlessHeld (P .held s) (record { entries = []; next = s }) busy
+    unlessHeld (P .held s) (record { entries = []; next = s })
+    (let end = P .finish now s in andThen (end .entries) (slotEnds P n (following now) (end .next)))
 
 -- all entries of a trace's course, from slot `now` and the state s on
 unfoldable pub course : {S : Type 0} → Policy S → Slot → S → List Arrival → List Entry

@@ -1,4 +1,5 @@
 -- What a reader must believe: the definitions of 01, a file to a section.
+pub mod Numbers
 pub mod Limits
 pub mod Packets
 pub mod Record
@@ -11,3 +12,4 @@ pub mod Answers
 pub mod Port
 pub mod Calls
 pub mod ByHand
+pub mod Idle

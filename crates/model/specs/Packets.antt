@@ -35,6 +35,10 @@ placeOf n = n .0 - 1
 abbrev pub slotOf : List ℕ → PacketNumber → Slot
 slotOf slots n = record { 0 = getD slots (placeOf n) 0 }
 
+-- the packet number that a list of packet numbers has for the packet with this number; 0 where it names none
+abbrev pub numberOf : List ℕ → PacketNumber → PacketNumber
+numberOf numbers n = record { 0 = getD numbers (placeOf n) 0 }
+
 -- how many slots end from this one on before the later one begins
 abbrev pub slotsUntil : Slot → Slot → ℕ
 slotsUntil now later = later .0 - now .0

@@ -10,7 +10,8 @@ use Rattle.model.specs.declared.Beta.{Beta}
 use Rattle.model.specs.declared.Fate.the-variants as fates
 use Rattle.model.specs.Limits.{portLimits}
 use Rattle.model.specs.Packets.{nobody, valuesOf}
-use Rattle.model.specs.Record.{fateNumber, lossFate}
+use Rattle.model.specs.Numbers.{fateNumber}
+use Rattle.model.specs.Record.{lossFate}
 use Rattle.model.specs.Course.{Decision, held, rejected, losing}
 use Rattle.model.specs.Policies.PG.{pgRule}
 use Rattle.model.specs.Rules.{Verdict}

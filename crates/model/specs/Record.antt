@@ -11,14 +11,7 @@ use Rattle.model.specs.declared.LossKind.{LossKind}
 use Rattle.model.specs.declared.LossKind.the-variants as kinds
 use Rattle.model.specs.declared.Loss.{Loss}
 use Rattle.model.specs.Packets.{Arrival, placeOf}
-
--- the number of each fate
-abbrev pub fateNumber : Fate → ℕ
-fateNumber Sent = 1
-fateNumber Rejected = 2
-fateNumber PushedOut = 3
-fateNumber Preempted = 4
-fateNumber Flushed = 5
+pub use Rattle.model.specs.Numbers.{fateNumber}
 
 -- what became of one packet
 pub record Entry : Type 0 where

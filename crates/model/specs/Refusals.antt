@@ -6,15 +6,22 @@ use lib.ListN.{length}
 use lib.Dec.{leb, ltb, eqb}
 use Rattle.model.specs.declared.Slot.{Slot}
 use Rattle.model.specs.declared.Beta.{Beta}
+use Rattle.model.specs.declared.Cause.{Cause}
+use Rattle.model.specs.declared.Cause.the-variants as causes
+use Rattle.model.specs.Numbers.{causeNumber}
 use Rattle.model.specs.Limits.{recordLimits, portLimits, within}
 use Rattle.model.specs.Packets.{Arrival, arrivals}
 use Rattle.model.specs.Record.{Lists}
 use Rattle.model.specs.Rules.{Verdict, clear, orElse, verdictIf}
 use Rattle.model.specs.Policies.MF.{Marking}
 
+-- unless a test holds, this refusal, at this place
+abbrev pub unlessAt : Bool → Cause → ℕ → Verdict
+unlessAt test cause place = verdictIf (not test) (causeNumber cause) place
+
 -- unless a test holds, this refusal, with no place
-abbrev pub unless : Bool → ℕ → Verdict
-unless test number = verdictIf (not test) number 0
+abbrev pub unless : Bool → Cause → Verdict
+unless test cause = unlessAt test cause 0
 
 -- a value is in range
 abbrev pub valueOk : ℕ → Bool
@@ -44,29 +51,29 @@ lengthsRefusal slots values lists =
     && eqb (length (lists .fates)) (length slots)
     && eqb (length (lists .whens)) (length slots)
     && eqb (length (lists .bys)) (length slots))
-    1
+    causes.Lengths
 
 -- 2: more than 2,048 packets
 abbrev pub packetsRefusal : List ℕ → Verdict
-packetsRefusal slots = unless (leb (length slots) (recordLimits .packets)) 2
+packetsRefusal slots = unless (leb (length slots) (recordLimits .packets)) causes.Packets
 
 -- 3: room out of range
 abbrev pub roomRefusal : ℕ → Verdict
-roomRefusal room = unless (roomOk room) 3
+roomRefusal room = unless (roomOk room) causes.Room
 
 -- 4: beta, or MF's lo, hi, r, out of range
 abbrev pub betaRefusal : Beta → Verdict
-betaRefusal beta = unless (betaOk beta) 4
+betaRefusal beta = unless (betaOk beta) causes.Parameters
 
 abbrev pub markingRefusal : Marking → Verdict
-markingRefusal M = unless (markingOk M) 4
+markingRefusal M = unless (markingOk M) causes.Parameters
 
 -- 5: slot out of range or below the one before; 6: value out of range. They name the lowest packet with either, 5 first at one packet
 unfoldable pub packetRefusalFrom : (ℕ → Bool) → Slot → List Arrival → Verdict
 packetRefusalFrom ok before [] = clear
 packetRefusalFrom ok before (a ∷ trace) =
-    orElse (verdictIf (not (slotOk before (a .slot))) 5 (a .packet .number .0))
-    (orElse (verdictIf (not (ok (a .packet .value))) 6 (a .packet .number .0)) (packetRefusalFrom ok (a .slot) trace))
+    orElse (unlessAt (slotOk before (a .slot)) causes.Slot (a .packet .number .0))
+    (orElse (unlessAt (ok (a .packet .value)) causes.Value (a .packet .number .0)) (packetRefusalFrom ok (a .slot) trace))
 
 abbrev pub packetRefusal : (ℕ → Bool) → List ℕ → List ℕ → Verdict
 packetRefusal ok slots values = packetRefusalFrom ok (record { 0 = 0 }) (arrivals slots values)
@@ -97,9 +104,9 @@ makingRefusal room beta = orElse (roomRefusal room) (betaRefusal beta)
 
 -- 8: port not sound
 abbrev pub soundRefusal : Bool → Verdict
-soundRefusal sound = unless sound 8
+soundRefusal sound = unless sound causes.Unsound
 
 -- a live arrival: 8 first, then 6, then 7, numbers spent
 unfoldable pub arrivalRefusal : (sound : Bool) (last value : ℕ) → Verdict
 arrivalRefusal sound last value =
-    orElse (soundRefusal sound) (orElse (unless (valueOk value) 6) (unless (ltb last (portLimits .number)) 7))
+    orElse (soundRefusal sound) (orElse (unless (valueOk value) causes.Value) (unless (ltb last (portLimits .number)) causes.Spent))

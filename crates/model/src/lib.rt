@@ -1,8 +1,8 @@
 // The kinds that every crate speaks of: packet numbers and slots, what the record says of a packet, totals, and the answers of the calls. What they mean stands in specs/.
 ghost use mathlib.Core.Path.{_≡_};
 ghost use Rattle.model.specs.Limits.{recordLimits};
-ghost use Rattle.model.specs.Record.{fateNumber, lossFate};
-ghost use Rattle.model.specs.Answers.{causeNumber, faultNumber};
+ghost use Rattle.model.specs.Numbers.{fateNumber, causeNumber, faultNumber};
+ghost use Rattle.model.specs.Record.{lossFate};
 
 // The number of a packet, from 1; 0 where there is none. The index of document 000.
 pub struct PacketNumber(pub u32);

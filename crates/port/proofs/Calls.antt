@@ -21,8 +21,9 @@ use Rattle.model.specs.Port.{PortState, PortOutcome, packetsOf, queueOf, holdin
 use Rattle.queue.specs.declared.Rule.the-variants.{PG}
 use Rattle.queue.specs.declared.Choice.{Choice}
 use Rattle.queue.specs.Choose.{choose, applied}
-use Rattle.queue.proofs.Choose.{decided}
+use Rattle.queue.proofs.Choose.{decided-pg}
 use Rattle.port.specs.State.{refusing}
+use Rattle.port.proofs.Parts.{sound-parts, queue-short}
 
 module _ (room : ℕ) (beta : Beta) where
   pub making-room : roomOk room ≡ false → refusing 3 zeroPort ≡ makeCall room beta
@@ -64,7 +65,7 @@ module _ (port : PortState) where
         let p = nextPacket port value in
         rw (s, v, lt-ltb _ _ n)
         (ap (λ (step : Decided). record { reply = saysOf (p .number) (step .decision); port = holding port (p .number) (step .queue) })
-        (decided (port .room) (PG (port .beta)) (queueOf port) p))
+        (decided-pg (port .room) (port .beta) (queueOf port) p (queue-short port (sound-parts port s))))
 
   pub slot-unsound : sound port ≡ false → refusing 8 port ≡ endOfSlotCall port
   unfolding endOfSlotCall unlessRefused

@@ -2,13 +2,14 @@
 use Prim.Native.Nat.{ℕ, _≤_}
 use mathlib.Core.Path.{_≡_, sym}
 use mathlib.Core.Bool.{Bool, true, _&&_}
+use mathlib.Core.List.{List, [], _∷_}
 use native.Mathlib.Omega.{arith}
-use lib.ListN.{length, take, drop}
+use lib.ListN.{length, take, drop, length-take}
 use lib.Dec.{leb, eqb}
 use borrow.Author.Tests.{leb-true, le-leb}
 use Rattle.model.specs.Limits.{portLimits, within}
 use Rattle.model.specs.Refusals.{valueOk, roomOk, betaOk}
-use Rattle.model.specs.Port.{PortState, all, risesFrom, sound}
+use Rattle.model.specs.Port.{PortState, packetsOf, queueOf, all, risesFrom, sound}
 use Rattle.port.specs.State.{Placed}
 use Rattle.port.proofs.Padded.{both, is-padded}
 use Rattle.port.proofs.Holding.{places-hold}
@@ -47,6 +48,22 @@ sound-parts port e =
       values-zero = z .1;
       numbers-zero = w .1;
     }
+
+packets-fewer : (numbers values : List ℕ) → length (packetsOf numbers values) ≤ length numbers
+unfolding packetsOf
+packets-fewer [] values = omega arith
+packets-fewer (n ∷ numbers) [] = omega arith
+packets-fewer (n ∷ numbers) (v ∷ values) = omega (arith, packets-fewer numbers values)
+
+-- a sound port's queue is within its room
+pub queue-short : (port : PortState) → Sound port → length (queueOf port) ≤ port .room
+queue-short port S =
+    omega (
+      arith,
+      S .held-fits,
+      packets-fewer (take (port .held) (port .numbers)) (take (port .held) (port .values)),
+      length-take (port .held) (port .numbers),
+    )
 
 pub parts-sound : (port : PortState) → Sound port → sound port ≡ true
 parts-sound port S =

@@ -18,7 +18,7 @@ use Rattle.queue.specs.declared.Choice.the-variants.{Hold, Reject, Lose}
 use Rattle.queue.specs.Choose.{applied}
 use Rattle.port.proofs.Padded.{both}
 use Rattle.port.proofs.Holding.{numbersOf, map-without, map-behind}
-use Rattle.port.proofs.Parts.{Sound}
+use Rattle.port.proofs.Parts.{Sound, queue-short}
 use Rattle.port.proofs.Choices.{Allowed}
 
 -- every entry passes a test
@@ -100,12 +100,6 @@ packets-rise before last (n ∷ numbers) (v ∷ values) r =
     let t = rises-parts before last n numbers r in
     rises-cons before last n _ (t .0) (t .1) (packets-rise n last numbers values (t .2))
 
-packets-fewer : (numbers values : List ℕ) → length (packetsOf numbers values) ≤ length numbers
-unfolding packetsOf
-packets-fewer [] values = omega arith
-packets-fewer (n ∷ numbers) [] = omega arith
-packets-fewer (n ∷ numbers) (v ∷ values) = omega (arith, packets-fewer numbers values)
-
 pub record Holdable (room last : ℕ) (queue : List Packet) : Type 0 where
   pub short : length queue ≤ room
   pub values-ok : all valueOk (valuesOf queue) ≡ true
@@ -116,7 +110,7 @@ sound-queue port S =
     let ns = take (port .held) (port .numbers) in
     let vs = take (port .held) (port .values) in
     record {
-      short = omega (arith, S .held-fits, packets-fewer ns vs, length-take (port .held) (port .numbers));
+      short = queue-short port S;
       values-ok = packets-all valueOk ns vs (S .values-ok);
       numbers-rise = packets-rise 0 (port .last .0) ns vs (S .numbers-rise);
     }

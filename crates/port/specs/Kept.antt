@@ -3,6 +3,8 @@ use Prim.Native.Nat.{ℕ, _<_}
 use mathlib.Core.Path.{_≡_}
 use mathlib.Core.Bool.{true}
 use Rattle.model.specs.declared.Beta.{Beta}
+use Rattle.model.specs.declared.Cause.the-variants.{Unsound}
+use Rattle.model.specs.Numbers.{causeNumber}
 use Rattle.model.specs.Limits.{portLimits}
 use Rattle.model.specs.Packets.{nobody}
 use Rattle.model.specs.Refusals.{valueOk}
@@ -21,11 +23,11 @@ ArrivalKeeps = (port : PortState) (value : ℕ) → sound port ≡ true → soun
 abbrev pub SlotKeeps : Type 0
 SlotKeeps = (port : PortState) → sound port ≡ true → sound (endOfSlotCall port .port) ≡ true
 
--- neither call on a sound port gives 8
+-- neither call on a sound port gives 8, not sound
 abbrev pub NeverUnsound : Type 0
 NeverUnsound =
     (port : PortState) (value : ℕ) → sound port ≡ true
-    → (arriveCall port value .reply .number ≡ 8 → ⊥) × (endOfSlotCall port .reply .number ≡ 8 → ⊥)
+    → (arriveCall port value .reply .number ≡ causeNumber Unsound → ⊥) × (endOfSlotCall port .reply .number ≡ causeNumber Unsound → ⊥)
 
 -- a sound port that holds nothing holds every accepted arrival
 abbrev pub EmptyHolds : Type 0

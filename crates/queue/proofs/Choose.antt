@@ -14,6 +14,7 @@ use Rattle.model.specs.declared.LossKind.the-variants.{PushedOut, Preempted}
 use Rattle.model.specs.Packets.{valuesOf}
 use Rattle.model.specs.Policies.Greedy.{greedyRule}
 use Rattle.model.specs.Policies.PG.{preemptedAt, pgRule}
+use Rattle.laws.proofs.PG.{pgAtOnce, pg-at-once}
 use Rattle.queue.specs.declared.Rule.{Rule}
 use Rattle.queue.specs.declared.Rule.the-variants.{Greedy, PG}
 use Rattle.queue.specs.declared.Choice.{Choice}
@@ -134,6 +135,11 @@ greedy-applied room queue p = simp (values-append, applied-cond, values-length)
 -- the rule's decision is the choice applied
 pub decided : (room : ℕ) (rule : Rule) (queue : List Packet) (p : Packet)
     → ruleOf room rule queue p ≡ applied (choose room rule (valuesOf queue) (p .value)) queue p
-unfolding pgRule choose
+unfolding pgAtOnce choose
 decided room Greedy queue p = greedy-applied room queue p ∙ ap (λ (k : Choice). applied k queue p) (sym (plain (valuesOf queue) (p .value) room))
 decided room (PG beta) queue p = simp (applied-cond, values-length, greedy-applied)
+
+-- and on a queue within the room that is PG's
+pub decided-pg : (room : ℕ) (beta : Beta) (queue : List Packet) (p : Packet) → length queue ≤ room
+    → pgRule room beta queue p ≡ applied (choose room (PG beta) (valuesOf queue) (p .value)) queue p
+decided-pg room beta queue p h = pg-at-once room beta queue p h ∙ decided room (PG beta) queue p

@@ -6,10 +6,14 @@ use lib.ListN.{length, getD}
 use lib.Dec.{ltb, eqb}
 use Rattle.model.specs.declared.Packet.{Packet}
 use Rattle.model.specs.declared.LossKind.the-variants.{PushedOut, Preempted}
+use Rattle.model.specs.declared.Fate.the-variants.{Rejected}
+use Rattle.model.specs.Numbers.{fateNumber}
+use Rattle.model.specs.Record.{lossFate}
 use Rattle.model.specs.Packets.{nobody}
 use Rattle.model.specs.Course.{Decided, held, rejected, losing}
 use Rattle.model.specs.Policies.Greedy.{loserAt, without, greedyRule}
-use Rattle.model.specs.Policies.PG.{preemptedAt, pgRule}
+use Rattle.model.specs.Policies.PG.{preemptedAt}
+use Rattle.laws.proofs.PG.{pgAtOnce}
 use Rattle.queue.specs.declared.Rule.{Rule}
 use Rattle.queue.specs.declared.Rule.the-variants.{Greedy, PG}
 use Rattle.queue.specs.declared.Choice.{Choice}
@@ -26,10 +30,10 @@ newestOf value [] = 0
 newestOf value (v ∷ values) =
     cond (ltb (newestOf value values) (length values)) (suc (newestOf value values)) (cond (eqb v value) 0 (suc (length values)))
 
--- the rule of model that a rule names
+-- what a rule decides: plain greedy, or PG with the arrival held at once where a packet was preempted, which is PG on every queue within the room
 abbrev pub ruleOf : ℕ → Rule → List Packet → Packet → Decided
 ruleOf room Greedy = greedyRule room
-ruleOf room (PG beta) = pgRule room beta
+ruleOf room (PG beta) = pgAtOnce room beta
 
 -- the place that the beta step finds; plain greedy has no beta step
 abbrev pub betaPlace : Rule → ℕ → List ℕ → ℕ
@@ -50,6 +54,17 @@ unfoldable pub choose : ℕ → Rule → List ℕ → ℕ → Choice
 choose room rule values arrival =
     let place = betaPlace rule arrival values in
     cond (ltb place (length values)) (Lose place Preempted) (greedyChoice room values arrival)
+
+-- a choice in 01's numbers: 0 for an arrival that is held at no cost, else the number of a fate; and the place of the packet that is lost, 0 where none is
+pub record Chosen : Type 0 where
+  pub number : ℕ
+  pub place : ℕ
+
+-- 2 rejected is the arrival's own fate; 3 pushed out and 4 preempted are that of the packet at the place, and the arrival is held
+abbrev pub ofChoice : Choice → Chosen
+ofChoice Hold = record { number = 0; place = 0 }
+ofChoice Reject = record { number = fateNumber Rejected; place = 0 }
+ofChoice (Lose place kind) = record { number = fateNumber (lossFate kind); place = place }
 
 -- what a choice makes of the queue
 abbrev pub applied : Choice → List Packet → Packet → Decided

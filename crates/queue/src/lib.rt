@@ -1,7 +1,7 @@
 // What a policy decides of one arrival, from the values of the held packets, oldest first. No copy of the held list is made.
 ghost use mathlib.Core.Path.{_≡_};
 ghost use Rattle.model.specs.Policies.PG.{preemptedAt};
-ghost use Rattle.queue.specs.Choose.{lowestOf, newestOf, overflowChoice, greedyChoice, choose};
+ghost use Rattle.queue.specs.Choose.{lowestOf, newestOf, overflowChoice, greedyChoice, choose, ofChoice};
 ghost use Rattle.queue.specs.Slide.{slid};
 use model::Beta;
 use model::LossKind;
@@ -106,7 +106,7 @@ fn pg(values: &[u32], room: usize, beta: Beta, arrival: u32) -> Choice
 
 // The decision on an arrival.
 pub fn decide(values: &[u32], room: usize, rule: Rule, arrival: u32) -> Choice
-    ensures { λ r. ⌜ r ≡ choose room rule (now (values .entry)) arrival ⌝ }
+    ensures { λ r. ⌜ ofChoice r ≡ ofChoice (choose room rule (now (values .entry)) arrival) ⌝ }
 {
     match rule {
         Rule::Greedy => greedy(values, room, arrival),

@@ -7,10 +7,11 @@ use Rattle.model.specs.Record.{Lists}
 use Rattle.model.specs.Rules.{Verdict, clear}
 use Rattle.model.specs.Course.{byRule}
 use Rattle.model.specs.Policies.Greedy.{greedyRule}
-use Rattle.model.specs.Policies.PG.{pgRule}
+use Rattle.model.specs.Packets.{arrivals}
+use Rattle.laws.proofs.PG.{pgAtOnce, pg-run}
 use Rattle.model.specs.Refusals.{valueOk, plainRefusal, pgRefusal, betaRefusal}
 use Rattle.laws.proofs.WellFormed.{wellFormed-greedy, wellFormed-pg}
-use Rattle.laws.proofs.Lawful.{lawful-greedy, lawful-pg}
+use Rattle.laws.proofs.Lawful.{lawful-greedy, lawful-at-once}
 use Rattle.laws.proofs.Accepted.{accepted}
 use Rattle.steps.specs.Calls.{Ready}
 use Rattle.steps.proofs.Answering.{ready}
@@ -23,9 +24,10 @@ module _ (slots values : List ℕ) (room : ℕ) (lists : Lists) where
       let T = accepted clear valueOk slots values room lists zero-number in
       (ready (byRule (greedyRule room)) [] valueOk (λ v h. h) slots values room lists T (wellFormed-greedy slots values (T .lengths) room) (lawful-greedy slots values room lists zero-number), T .room-from)
 
-  pub pg-ready : (beta : Beta) → clear ≡ pgRefusal beta slots values room lists → Ready (byRule (pgRule room beta)) [] slots values lists × (1 ≤ room)
+  pub pg-ready : (beta : Beta) → clear ≡ pgRefusal beta slots values room lists → Ready (byRule (pgAtOnce room beta)) [] slots values lists × (1 ≤ room)
   unfolding pgRefusal
   pg-ready beta e =
       let zero-number : pgRefusal beta slots values room lists .number ≡ 0 = ap (λ (v : Verdict). v .number) (sym e) in
       let T = accepted (betaRefusal beta) valueOk slots values room lists zero-number in
-      (ready (byRule (pgRule room beta)) [] valueOk (λ v h. h) slots values room lists T (wellFormed-pg slots values (T .lengths) room beta) (lawful-pg slots values room lists beta zero-number), T .room-from)
+      let formed = rw (pg-run room beta (arrivals slots values)) at (wellFormed-pg slots values (T .lengths) room beta) in
+      (ready (byRule (pgAtOnce room beta)) [] valueOk (λ v h. h) slots values room lists T formed (lawful-at-once slots values room lists beta zero-number), T .room-from)

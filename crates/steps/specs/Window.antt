@@ -6,6 +6,10 @@ use lib.ListN.{length, take, drop}
 use Rattle.model.specs.declared.Packet.{Packet}
 use Rattle.model.specs.declared.SlotAnswer.{SlotAnswer}
 use Rattle.model.specs.declared.SlotAnswer.the-variants.{Sent, Idle}
+use Rattle.model.specs.declared.Fate.the-variants as fates
+use Rattle.model.specs.Numbers.{fateNumber}
+use Rattle.model.specs.Packets.{nobody}
+use Rattle.model.specs.Answers.{PortReply, portSays, ofSlot}
 use Rattle.model.specs.Port.{packetsOf}
 use Rattle.steps.specs.declared.Window.{Window}
 
@@ -38,3 +42,13 @@ pub record Holds (w : Window) (numbers values : List ℕ) (queue : List Packet) 
 abbrev pub oldestOf : List Packet → SlotAnswer
 oldestOf [] = Idle
 oldestOf (p ∷ queue) = Sent p
+
+-- and what that says in 01's numbers: 1 sent and the packet, or 0
+abbrev pub oldestSays : List Packet → PortReply
+oldestSays [] = portSays 0 (record { 0 = 0 }) nobody
+oldestSays (p ∷ queue) = portSays (fateNumber fates.Sent) (record { 0 = 0 }) p
+
+-- the answer of the end of a slot, told of a queue
+pub record Oldest (queue : List Packet) (r : SlotAnswer) : Type 0 where
+  pub says : ofSlot r ≡ oldestSays queue
+  pub is : r ≡ oldestOf queue

@@ -2,10 +2,9 @@
 // nothing is written.
 ghost use mathlib.Core.Path.{_≡_};
 ghost use mathlib.Core.List.{[], _∷_, _++_};
-ghost use Rattle.model.specs.declared.SlotAnswer.the-variants.{Idle};
 ghost use Rattle.queue.specs.Choose.{ruleOf};
 ghost use Rattle.entry.specs.Entry.{lists};
-ghost use Rattle.steps.specs.Window.{windowOf, Holds, oldestOf};
+ghost use Rattle.steps.specs.Window.{windowOf, Holds, Oldest};
 ghost use Rattle.steps.specs.Step.{Stepped, arrival, arriving, sending};
 ghost use Rattle.steps.specs.Guarded.{Guarded, liesWithin, hasPlace, Unmoved};
 use crate::Window;
@@ -38,9 +37,9 @@ fn has_place(numbers: &[u32], values: &[u32], w: Window) -> bool
     w.tail - w.head < values.len()
 }
 
-// What the end of a slot answers: the oldest packet, or idle.
+// What the end of a slot answers: the oldest packet, or idle; idle too where the window does not lie within its lists.
 pub fn oldest(numbers: &[u32], values: &[u32], w: Window) -> SlotAnswer
-    ensures { λ r. ⌜ Guarded (liesWithin w (now (numbers .entry)) (now (values .entry))) (r ≡ oldestOf (windowOf w (now (numbers .entry)) (now (values .entry)))) (r ≡ Idle) ⌝ }
+    ensures { λ r. ⌜ Guarded (liesWithin w (now (numbers .entry)) (now (values .entry))) (Oldest (windowOf w (now (numbers .entry)) (now (values .entry))) r) (Oldest [] r) ⌝ }
 {
     if !lies_within(numbers, values, w) {
         return SlotAnswer::Idle;

@@ -9,7 +9,7 @@ use Rattle.model.specs.declared.Beta.{Beta}
 use Rattle.model.specs.declared.Cause.the-variants.{Text}
 use Rattle.model.specs.Packets.{arrivals}
 use Rattle.model.specs.Record.{blank, rows}
-use Rattle.model.specs.Answers.{causeNumber}
+use Rattle.model.specs.Numbers.{causeNumber}
 use Rattle.model.specs.Calls.{Outcome, pgCall}
 use Rattle.text.specs.Input.{Input, malformed, trace, inputOf}
 use Rattle.text.specs.Output.{recordHeader, rowLines, refusalText}

@@ -8,7 +8,7 @@ use lib.ListN.{length, take, drop}
 use lib.Dec.{ltb, eqb}
 use Rattle.model.specs.declared.Cause.the-variants.{Packets, Text}
 use Rattle.model.specs.Limits.{recordLimits}
-use Rattle.model.specs.Answers.{causeNumber}
+use Rattle.model.specs.Numbers.{causeNumber}
 use Rattle.text.specs.Input.{trace}
 use Rattle.text.specs.Output.{refusalText}
 use Rattle.text.specs.Bench.{outputBy}

@@ -94,7 +94,7 @@ module _ (M : Marking) (less : M .lo < M .hi) where
       go false h = h
 
   -- the flush
-  hi-stays : (m : ℕ) (marks : List ℕ) (queue : List Packet) → Guarded marks queue → HasHi queue → HasHi (unflushed m marks queue)
+  hi-stays : (m : PacketNumber) (marks : List ℕ) (queue : List Packet) → Guarded marks queue → HasHi queue → HasHi (unflushed m marks queue)
   unfolding unflushed
   hi-stays m marks [] G h = h
   hi-stays m marks (p ∷ queue) G (inl e) = rw (hi-unmarked marks p (HasHi queue) (G .0) e) (inl e)
@@ -105,7 +105,7 @@ module _ (M : Marking) (less : M .lo < M .hi) where
   some-held [] h = absurd h
   some-held (p ∷ queue) h = omega arith
 
-  leaves : (m : ℕ) (marks : List ℕ) (queue : List Packet) → Guarded marks queue → 0 < length queue → 0 < length (unflushed m marks queue)
+  leaves : (m : PacketNumber) (marks : List ℕ) (queue : List Packet) → Guarded marks queue → 0 < length queue → 0 < length (unflushed m marks queue)
   unfolding unflushed
   leaves m marks [] G h = h
   leaves m marks (p ∷ queue) G h = go (isMarked marks p) refl
@@ -116,7 +116,7 @@ module _ (M : Marking) (less : M .lo < M .hi) where
           (λ t. some-held (unflushed m marks queue) (hi-stays m marks queue (G .1) (G .0 .marked e .1))) (λ t. omega arith)
       go false e = rw e (omega arith)
 
-  flush-guarded : (m : ℕ) (marks : List ℕ) (queue : List Packet) → Guarded marks queue → Guarded marks (unflushed m marks queue)
+  flush-guarded : (m : PacketNumber) (marks : List ℕ) (queue : List Packet) → Guarded marks queue → Guarded marks (unflushed m marks queue)
   unfolding unflushed
   flush-guarded m marks [] G = tt
   flush-guarded m marks (p ∷ queue) G =

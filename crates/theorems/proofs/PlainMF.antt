@@ -43,12 +43,12 @@ from-none lo hi slots now older (p ∷ queue) marks =
 abbrev None : List ℕ → Type 0
 None marks = (k : ℕ) → getD marks k 0 ≡ 0
 
-flushed-none : (now : Slot) (m : ℕ) (marks : List ℕ) (queue : List Packet) → None marks → flushed now m marks queue ≡ []
+flushed-none : (now : Slot) (m : PacketNumber) (marks : List ℕ) (queue : List Packet) → None marks → flushed now m marks queue ≡ []
 unfolding flushed
 flushed-none now m marks [] none = refl
 flushed-none now m marks (p ∷ queue) none = rw (none (placeOf (p .number))) (flushed-none now m marks queue none)
 
-unflushed-none : (m : ℕ) (marks : List ℕ) (queue : List Packet) → None marks → unflushed m marks queue ≡ queue
+unflushed-none : (m : PacketNumber) (marks : List ℕ) (queue : List Packet) → None marks → unflushed m marks queue ≡ queue
 unfolding unflushed
 unflushed-none m marks [] none = refl
 unflushed-none m marks (p ∷ queue) none = rw (none (placeOf (p .number))) (ap (λ (q : List Packet). p ∷ q) (unflushed-none m marks queue none))

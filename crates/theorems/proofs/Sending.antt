@@ -2,15 +2,15 @@
 -- sent before it arrives, and at most room have arrived and are still to be sent just after any arrival.
 use Prim.Native.Nat.{ℕ, zero, suc, _+_, _≤_}
 use mathlib.Core.Path.{_≡_, refl}
-use mathlib.Core.Bool.{Bool, true, false, cond, _&&_, _||_}
+use mathlib.Core.Bool.{Bool, true, false, cond, _&&_}
 use mathlib.Core.List.{List, [], _∷_}
 use native.Mathlib.Nat.{add-zero, add-suc}
 use native.Mathlib.Omega.{arith}
 use lib.Dec.{leb, ltb}
 use borrow.Author.Tests.{ltb-true, ltb-false, leb-false, lt-ltb}
-use Rattle.model.specs.declared.Fate.the-variants.{Sent, Flushed}
+use Rattle.model.specs.declared.Fate.the-variants.{Sent}
 use Rattle.model.specs.Record.{Row}
-use Rattle.model.specs.Rules.{Buffer, Faultless, hasFate, isLost, countOf, whenWrong, notAfterLast, notLater, isHeldAt, overRoom}
+use Rattle.model.specs.Rules.{Buffer, Faultless, hasFate, atFate, countOf, whenWrong, notAfterLast, notLater, isHeldAt, overRoom}
 use Rattle.theorems.specs.Demand3.{sentAtLeast}
 
 -- sent, of value at least w
@@ -106,29 +106,29 @@ pub record SoFar (w room now : ℕ) (older : List Row) : Type 0 where
 -- a packet that is sent is sent before this slot or held just after its arrival
 held-or-before : (w : ℕ) (at r : Row)
     → cond (isSentHi w r) 1 0 ≤ cond (isSentHi w r && ltb (r .when .0) (at .slot .0)) 1 0 + cond (isHeldAt at r) 1 0
-unfolding isHeldAt
-held-or-before w at r = go (hasFate Sent r) (leb w (r .value)) (leb (at .slot .0) (r .when .0)) (ltb (r .when .0) (at .slot .0)) refl refl
+unfolding isHeldAt atFate
+held-or-before w at r = go (hasFate Sent r) (leb w (r .value)) (leb (at .slot .0) (r .when .0)) (ltb (r .when .0) (at .slot .0)) _ refl refl
   where
-    go : (s v e f : Bool) → leb (at .slot .0) (r .when .0) ≡ e → ltb (r .when .0) (at .slot .0) ≡ f
+    go : (s v e f x : Bool) → leb (at .slot .0) (r .when .0) ≡ e → ltb (r .when .0) (at .slot .0) ≡ f
         → cond (s && v) 1 0
-        ≤ cond (s && v && f) 1 0 + cond ((s || hasFate Flushed r) && e || isLost r && ltb (at .number .0) (r .by .0)) 1 0
-    go false v e f he hf = omega arith
-    go true false e f he hf = omega arith
-    go true true true f he hf = omega arith
-    go true true false true he hf = omega arith
-    go true true false false he hf = omega (arith, leb-false, ltb-false)
+        ≤ cond (s && v && f) 1 0 + cond (cond s e x) 1 0
+    go false v e f x he hf = omega arith
+    go true false e f x he hf = omega arith
+    go true true true f x he hf = omega arith
+    go true true false true x he hf = omega arith
+    go true true false false x he hf = omega (arith, leb-false, ltb-false)
 
 -- a packet is not sent before the slot in which it arrives
 sent-later : (B : Buffer) (older : List Row) (r : Row) (w : ℕ) → Faultless B older r
     → _≡_ {A = ℕ} (cond (isSentHi w r && ltb (r .when .0) (r .slot .0)) 1 0) 0
-unfolding whenWrong
-sent-later B older r w h = go (hasFate Sent r) (leb w (r .value)) (ltb (r .when .0) (r .slot .0)) _ _ _ (h .2)
+unfolding whenWrong atFate
+sent-later B older r w h = go (hasFate Sent r) (leb w (r .value)) (ltb (r .when .0) (r .slot .0)) _ (h .2)
   where
-    go : (s v e x y z : Bool) → s && e || x || y || z ≡ false → _≡_ {A = ℕ} (cond (s && v && e) 1 0) 0
-    go false v e x y z h = refl
-    go true false e x y z h = refl
-    go true true false x y z h = refl
-    go true true true x y z h = absurd (let n : _≡_ {A = ℕ} 0 1 = cc in omega arith)
+    go : (s v e x : Bool) → cond s e x ≡ false → _≡_ {A = ℕ} (cond (s && v && e) 1 0) 0
+    go false v e x h = refl
+    go true false e x h = refl
+    go true true false x h = refl
+    go true true true x h = absurd (let n : _≡_ {A = ℕ} 0 1 = cc in omega arith)
 
 module _ (w : ℕ) (B : Buffer) (older : List Row) (r : Row) (h : Faultless B older r) where
   -- an arrival changes nothing of what was sent before its slot

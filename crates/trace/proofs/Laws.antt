@@ -74,7 +74,7 @@ pub record Order (own : Bool) (ok : ℕ → Bool) (slots values : List ℕ) (roo
       → answer ≡ packetRefusal ok slots values
 
 pub order : (own : Bool) (ok : ℕ → Bool) (slots values : List ℕ) (room : ℕ) (lists : Lists)
-    → Order own ok slots values room lists (traceRefusal (unless own 4) ok slots values room lists)
+    → Order own ok slots values room lists (traceRefusal (unless own causes.Parameters) ok slots values room lists)
 unfolding orElse
 order own ok slots values room lists =
     record {

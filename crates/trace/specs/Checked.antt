@@ -10,7 +10,7 @@ use Rattle.model.specs.Record.{Lists}
 use Rattle.model.specs.Rules.{Verdict, clear}
 use Rattle.model.specs.Policies.MF.{Marking}
 use Rattle.model.specs.Refusals.{valueOk, loOrHi}
-use Rattle.model.specs.Answers.{causeNumber}
+use Rattle.model.specs.Numbers.{causeNumber}
 use Rattle.trace.specs.declared.Checked.{Checked}
 use Rattle.trace.specs.declared.Checked.the-variants.{Accepted, Refused}
 use Rattle.trace.specs.declared.Values.{Values}

@@ -3,6 +3,7 @@ ghost use mathlib.Core.Path.{_≡_};
 ghost use mathlib.Core.Bool.{true};
 ghost use lib.ListN.{length};
 ghost use Rattle.model.specs.Rules.{clear};
+ghost use Rattle.model.specs.declared.Cause.the-variants.{Parameters};
 ghost use Rattle.model.specs.Refusals.{unless, markingOk, slotOk, packetRefusal, traceRefusal, plainRefusal, pgRefusal, mfRefusal};
 ghost use Rattle.trace.specs.Checked.{verdictOf, listsOf, markingOf, okOf, lengthsEqual, Lengths};
 ghost use Rattle.trace.specs.Fitting.{SlotsFit};
@@ -174,7 +175,7 @@ fn in_order(
     own: bool,
     taken: Values,
 ) -> Checked
-    ensures { λ r. ⌜ verdictOf r ≡ traceRefusal (unless own 4) (okOf taken) (now (slots .entry)) (now (values .entry)) room (listsOf (now (fates .entry)) (now (whens .entry)) (now (bys .entry))) ⌝ }
+    ensures { λ r. ⌜ verdictOf r ≡ traceRefusal (unless own Parameters) (okOf taken) (now (slots .entry)) (now (values .entry)) room (listsOf (now (fates .entry)) (now (whens .entry)) (now (bys .entry))) ⌝ }
 {
     if !lengths_equal(slots, values, fates, whens, bys) {
         return refused(Cause::Lengths);

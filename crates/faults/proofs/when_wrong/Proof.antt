@@ -1,11 +1,11 @@
 -- `faults::when_wrong` meets its contract: in each arm the fate is known, and `whenWrong` is that fate's test.
 use borrow.Author.Needs.{needs}
 use lib.Dec.{ltb, eqb}
-use Prim.Native.Nat.{ℕ}
 use mathlib.Core.Path.{sym, ap, _∙_}
 use mathlib.Core.Bool.{not}
 use Rattle.faults.specs.Faults.{rowOf}
 use Rattle.faults.proofs.when_wrong.Statement.{statement}
+use Rattle.model.specs.declared.Slot.{Slot}
 use Rattle.model.specs.Record.{fateNumber}
 use Rattle.faults.proofs.Fates.{when-test}
 use Rattle.model.specs.declared.Fate.the-variants.{Sent, Rejected, PushedOut, Preempted, Flushed}
@@ -20,20 +20,20 @@ enum-told-2 c = search needs
 enum-told-3 : tie.Need-enum-told-3
 enum-told-3 c = search needs
 
-entry-of-requires : tie.Need-entry-of-requires
-entry-of-requires c κs = search needs
+slot-of-requires : tie.Need-slot-of-requires
+slot-of-requires c κs = search needs
 
 enum-told-4 : tie.Need-enum-told-4
 enum-told-4 c = search needs
 
-entry-of-requires-2 : tie.Need-entry-of-requires-2
-entry-of-requires-2 c κs = search needs
+slot-of-requires-2 : tie.Need-slot-of-requires-2
+slot-of-requires-2 c κs = search needs
 
 enum-told-5 : tie.Need-enum-told-5
 enum-told-5 c = search needs
 
-entry-of-requires-3 : tie.Need-entry-of-requires-3
-entry-of-requires-3 c κs = search needs
+slot-of-requires-3 : tie.Need-slot-of-requires-3
+slot-of-requires-3 c κs = search needs
 
 returns : tie.Need-returns
 returns c = sym (when-test Sent _ (rowOf (c .before .before .before .before .args .entry)) (ap fateNumber (c .before .enum-told .given .1)))
@@ -43,21 +43,21 @@ returns-2 c = sym (when-test Rejected _ (rowOf (c .before .before .before .befor
 
 returns-3 : tie.Need-returns-3
 returns-3 c =
-    let start = c .before .before .before .before .before in
-    ap (λ (s : ℕ). not (eqb (start .args .entry .when .0) s)) (c .before .entry-of .ensures)
-    ∙ sym (when-test PushedOut _ (rowOf (start .args .entry)) (ap fateNumber (c .before .before .enum-told3 .given .1)))
+    let start = c .before .before .before .before .before .before in
+    ap (λ (s : Slot). not (eqb (start .args .entry .when .0) (s .0))) (c .before .before .slot-of .ensures)
+    ∙ sym (when-test PushedOut _ (rowOf (start .args .entry)) (ap fateNumber (c .before .before .before .enum-told3 .given .1)))
 
 returns-4 : tie.Need-returns-4
 returns-4 c =
-    let start = c .before .before .before .before .before in
-    ap (λ (s : ℕ). not (eqb (start .args .entry .when .0) s)) (c .before .entry-of2 .ensures)
-    ∙ sym (when-test Preempted _ (rowOf (start .args .entry)) (ap fateNumber (c .before .before .enum-told4 .given .1)))
+    let start = c .before .before .before .before .before .before in
+    ap (λ (s : Slot). not (eqb (start .args .entry .when .0) (s .0))) (c .before .before .slot-of2 .ensures)
+    ∙ sym (when-test Preempted _ (rowOf (start .args .entry)) (ap fateNumber (c .before .before .before .enum-told4 .given .1)))
 
 returns-5 : tie.Need-returns-5
 returns-5 c =
-    let start = c .before .before .before .before .before in
-    ap (λ (s : ℕ). ltb (start .args .entry .when .0) s) (c .before .entry-of3 .ensures)
-    ∙ sym (when-test Flushed _ (rowOf (start .args .entry)) (ap fateNumber (c .before .before .enum-told5 .given .1)))
+    let start = c .before .before .before .before .before .before in
+    ap (λ (s : Slot). ltb (start .args .entry .when .0) (s .0)) (c .before .before .slot-of3 .ensures)
+    ∙ sym (when-test Flushed _ (rowOf (start .args .entry)) (ap fateNumber (c .before .before .before .enum-told5 .given .1)))
 
 pub when-wrong-spec : {M : Type 1} → statement M
 when-wrong-spec =
@@ -66,11 +66,11 @@ when-wrong-spec =
     enum-told
     enum-told-2
     enum-told-3
-    entry-of-requires
+    slot-of-requires
     enum-told-4
-    entry-of-requires-2
+    slot-of-requires-2
     enum-told-5
-    entry-of-requires-3
+    slot-of-requires-3
     returns
     returns-2
     returns-3

@@ -5,12 +5,12 @@
 use Prim.Native.Nat.{ℕ, zero, suc, _-_}
 use mathlib.Core.Bool.{Bool, cond, not, _&&_}
 use mathlib.Core.List.{List, [], _∷_, _++_}
-use lib.ListN.{length, getD, set, take, replicate}
+use lib.ListN.{length, set, take, replicate}
 use lib.Dec.{leb, eqb}
 use Rattle.model.specs.declared.PacketNumber.{PacketNumber}
 use Rattle.model.specs.declared.Slot.{Slot}
 use Rattle.model.specs.declared.Packet.{Packet}
-use Rattle.model.specs.Packets.{arrivals, placeOf, slotOf}
+use Rattle.model.specs.Packets.{arrivals, placeOf, slotOf, numberOf}
 use Rattle.model.specs.Record.{Entry, flushedAt}
 use Rattle.model.specs.Course.{Step, Policy, byRule, sendOldest, course, first}
 use Rattle.model.specs.Policies.Greedy.{greedyRule}
@@ -26,8 +26,9 @@ pub record Marked : Type 0 where
   pub queue : List Packet
   pub marks : List ℕ
 
+-- a packet's mark: the number of the packet that marked it, 0 for none
 abbrev pub markOf : List ℕ → Packet → PacketNumber
-markOf marks p = record { 0 = getD marks (placeOf (p .number)) 0 }
+markOf marks p = numberOf marks (p .number)
 
 abbrev pub isMarked : List ℕ → Packet → Bool
 isMarked marks p = not (eqb (markOf marks p .0) 0)
@@ -55,23 +56,23 @@ abbrev pub marksAfter : ℕ → Marking → List ℕ → Slot → Marked → Lis
 marksAfter room M slots now s = markFrom M slots now [] (take (room - 1) (s .queue)) (s .marks)
 
 -- p is flushed under a head with mark m
-abbrev pub goesWith : ℕ → List ℕ → Packet → Bool
-goesWith m marks p = isMarked marks p && leb (markOf marks p .0) m
+abbrev pub goesWith : PacketNumber → List ℕ → Packet → Bool
+goesWith m marks p = isMarked marks p && leb (markOf marks p .0) (m .0)
 
 -- the packets of a queue that are flushed, and those that stay
-unfoldable pub flushed : Slot → ℕ → List ℕ → List Packet → List Entry
+unfoldable pub flushed : Slot → PacketNumber → List ℕ → List Packet → List Entry
 flushed now m marks [] = []
 flushed now m marks (p ∷ queue) =
     cond (goesWith m marks p) (flushedAt now (markOf marks p) p ∷ flushed now m marks queue) (flushed now m marks queue)
 
-unfoldable pub unflushed : ℕ → List ℕ → List Packet → List Packet
+unfoldable pub unflushed : PacketNumber → List ℕ → List Packet → List Packet
 unflushed m marks [] = []
 unflushed m marks (p ∷ queue) = cond (goesWith m marks p) (unflushed m marks queue) (p ∷ unflushed m marks queue)
 
 -- the head's mark, 0 for none
-abbrev pub headMark : List ℕ → List Packet → ℕ
-headMark marks [] = 0
-headMark marks (p ∷ queue) = markOf marks p .0
+abbrev pub headMark : List ℕ → List Packet → PacketNumber
+headMark marks [] = record { 0 = 0 }
+headMark marks (p ∷ queue) = markOf marks p
 
 -- the end of a slot once the marks are set: flush by the head's mark, then send the head
 abbrev pub flushAndSend : Slot → List ℕ → List Packet → Step Marked

@@ -1,8 +1,8 @@
 -- PG (document 001). First, going from the oldest held packet, the first p with value(p) x num <= value(arrival) x den is preempted, at most one.
--- Then as plain greedy. Where one was preempted there is room, so plain greedy holds the arrival.
+-- Then as plain greedy.
 use Prim.Native.Nat.{ℕ, suc, _*_}
 use mathlib.Core.Bool.{cond}
-use mathlib.Core.List.{List, [], _∷_, _++_}
+use mathlib.Core.List.{List, [], _∷_}
 use lib.ListN.{length, getD}
 use lib.Dec.{ltb, leb}
 use Rattle.model.specs.declared.Packet.{Packet}
@@ -19,15 +19,16 @@ preemptedAt beta arrival [] = 0
 preemptedAt beta arrival (v ∷ values) =
     cond (leb (v * beta .num) (arrival * beta .den)) 0 (suc (preemptedAt beta arrival values))
 
+-- at most one is preempted, then plain greedy goes on with what is left; where one was preempted the decision is that loss
 unfoldable pub pgRule : ℕ → Beta → List Packet → Packet → Decided
 pgRule room beta queue p =
     let place = preemptedAt beta (p .value) (valuesOf queue) in
-    cond (ltb place (length queue))
-    (record {
-      decision = losing (record { packet = getD queue place nobody; kind = Preempted });
-      queue = without place queue ++ p ∷ [];
-    })
-    (greedyRule room queue p)
+    let preempts = ltb place (length queue) in
+    let greedy = greedyRule room (cond preempts (without place queue) queue) p in
+    record {
+      decision = cond preempts (losing (record { packet = getD queue place nobody; kind = Preempted })) (greedy .decision);
+      queue = greedy .queue;
+    }
 
 -- PG's run
 abbrev pub pgRun : ℕ → Beta → List Arrival → List Entry

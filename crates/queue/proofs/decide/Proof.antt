@@ -1,6 +1,6 @@
 use mathlib.Core.Path.{_∙_, sym, ap}
 use Rattle.queue.specs.declared.Rule.{Rule}
-use Rattle.queue.specs.Choose.{choose}
+use Rattle.queue.specs.Choose.{choose, ofChoice}
 use Rattle.queue.proofs.Choose.{plain}
 use borrow.Author.Needs.{needs}
 use Rattle.queue.proofs.decide.Statement.{statement}
@@ -21,14 +21,16 @@ pg-requires c κs = search needs
 returns : tie.Need-returns
 returns c =
     let a = c .before .before .before .before .args in
-    c .greedy .ensures
+    ap ofChoice
+    (c .greedy .ensures
     ∙ sym (plain (a .values .now) (a .arrival) (a .room))
-    ∙ ap (λ (rule : Rule). choose (a .room) rule (a .values .now) (a .arrival)) (sym (c .before .enum-told .given .1))
+    ∙ ap (λ (rule : Rule). choose (a .room) rule (a .values .now) (a .arrival)) (sym (c .before .enum-told .given .1)))
 
 returns-2 : tie.Need-returns-2
 returns-2 c =
     let a = c .before .before .before .before .before .args in
-    c .pg .ensures ∙ ap (λ (rule : Rule). choose (a .room) rule (a .values .now) (a .arrival)) (sym (c .before .before .rule .given .1))
+    ap ofChoice
+    (c .pg .ensures ∙ ap (λ (rule : Rule). choose (a .room) rule (a .values .now) (a .arrival)) (sym (c .before .before .rule .given .1)))
 
 pub decide-spec : {M : Type 1} → statement M
 decide-spec =

@@ -6,6 +6,7 @@ use borrow.Author.Tests.{not-true, not-false, le-leb, lt-leb}
 use lib.Dec.{leb}
 use lib.ListN.{length}
 use mathlib.Core.Bool.{true}
+use Rattle.model.specs.declared.Cause.the-variants.{Parameters}
 use Rattle.model.specs.Refusals.{unless, roomOk, traceRefusal}
 use Rattle.trace.proofs.in_order.Statement.{statement}
 use Rattle.trace.proofs.in_order.Tie as tie
@@ -28,7 +29,7 @@ abbrev order-at : tie.After-lengths-equal → Verdict → Type 0
 order-at c = let a = start c .args in Order (a .own) (okOf (a .taken)) (a .slots .now) (a .values .now) (a .room) (lists c)
 
 tests : (c : tie.After-lengths-equal) → let a = start c .args in
-    order-at c (traceRefusal (unless (a .own) 4) (okOf (a .taken)) (a .slots .now) (a .values .now) (a .room) (lists c))
+    order-at c (traceRefusal (unless (a .own) Parameters) (okOf (a .taken)) (a .slots .now) (a .values .now) (a .room) (lists c))
 tests c =
     let a = start c .args in
     order (a .own) (okOf (a .taken)) (a .slots .now) (a .values .now) (a .room) (lists c)

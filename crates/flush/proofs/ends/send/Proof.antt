@@ -19,7 +19,7 @@ returns : tie.Need-returns
 returns c =
     let a = c .before .before .before .before .before .before .before .args in
     let k = c .match .keys2 in
-    let told = c .before .oldest .ensures .passed (within-lies (a .w) (a .numbers .now) (a .values .now) (c .before .before .before .before .before .before .before .pre)) in
+    let told = c .before .oldest .ensures .passed (within-lies (a .w) (a .numbers .now) (a .values .now) (c .before .before .before .before .before .before .before .pre)) .is in
     sent-none (a .slot) (a .w .head) (a .w .tail) (a .numbers .now) (a .values .now) (c .before .before .before .before .before .before .before .pre) (lists (a .fates .now) (a .whens .now) (a .bys .now))
     (λ p e. ⊎-elim (λ t. omega arith) (λ t. omega arith) (rw (told ∙ e) at k))
 
@@ -42,7 +42,7 @@ returns-2 : tie.Need-returns-2
 returns-2 c =
     let a = c .before .before .before .before .before .before .before .before .before .before .before .before .before .before .before .before .before .before .before .args in
     sent-oldest (a .slot) (a .w .head) (a .w .tail) (a .numbers .now) (a .values .now) (c .before .before .before .before .before .before .before .before .before .before .before .before .before .before .before .before .before .before .before .pre) (lists (a .fates .now) (a .whens .now) (a .bys .now))
-    (c .before .before .before .before .before .before .before .before .before .before .before .p .given .0 .0) (sym (c .before .before .before .before .before .before .before .before .before .before .before .before .before .oldest .ensures .passed (within-lies (a .w) (a .numbers .now) (a .values .now) (c .before .before .before .before .before .before .before .before .before .before .before .before .before .before .before .before .before .before .before .pre))) ∙ c .before .before .before .before .before .before .before .before .before .before .before .p .given .1) _ (c .before .before .before .before .before .before .enter .ensures) .1
+    (c .before .before .before .before .before .before .before .before .before .before .before .p .given .0 .0) (sym (c .before .before .before .before .before .before .before .before .before .before .before .before .before .oldest .ensures .passed (within-lies (a .w) (a .numbers .now) (a .values .now) (c .before .before .before .before .before .before .before .before .before .before .before .before .before .before .before .before .before .before .before .pre)) .is) ∙ c .before .before .before .before .before .before .before .before .before .before .before .p .given .1) _ (c .before .before .before .before .before .before .enter .ensures) .1
 
 pub send-spec : {M : Type 1} → statement M
 send-spec =

@@ -1,9 +1,10 @@
 -- The invariant: what is held so far and what still stays is all that stays; what still goes completes what has gone.
-use Prim.Native.Nat.{ℕ, _-_}
+use Prim.Native.Nat.{_-_}
 use mathlib.Core.Path.{_≡_, refl, sym, ap, _∙_}
 use mathlib.Core.Bool.{not, _&&_}
 use lib.ListN.{length, getD}
 use lib.Dec.{eqb, leb}
+use Rattle.model.specs.declared.PacketNumber.{PacketNumber}
 use Rattle.model.specs.declared.Fate.the-variants.{Flushed}
 use Rattle.model.specs.Record.{enter}
 use Rattle.entry.specs.Entry.{lists, entry}
@@ -60,12 +61,12 @@ loop-again c =
     let loop = c .before .before .before .before .before .before .before .before .before .before .before .before .before .before .before .before .loop in
     let entered = c .before .before .before .before .before .before .enter in
     let mark = c .before .before .before .before .before .before .before .before .before .before .before .before .mark-of in
-    let goes = sym (ap (λ (k : ℕ). not (eqb k 0) && leb k (a .m)) (mark .ensures)) ∙ sym (c .before .before .before .before .before .before .before .before .before .before .before .goes-with .ensures) ∙ c .before .before .before .before .before .before .before .before .before .before .if1 .taken in (
+    let goes = sym (ap (λ (k : PacketNumber). not (eqb (k .0) 0) && leb (k .0) (a .m .0)) (mark .ensures)) ∙ sym (c .before .before .before .before .before .before .before .before .before .before .before .goes-with .ensures) ∙ c .before .before .before .before .before .before .before .before .before .before .if1 .taken in (
       entered .kept .0 ∙ loop .inv .0,
       entered .kept .1 .0 ∙ loop .inv .1,
       entered .kept .1 .1 .0 ∙ loop .inv .2,
       sifting-goes (a .m) (a .marks .now) (a .slot) (a .w .head) (a .w .tail) (a .numbers .now) (a .values .now) (lists (a .fates .now) (a .whens .now) (a .bys .now)) (loop .numbers) (loop .values) (loop .from) (loop .to) (lists (loop .fates) (loop .whens) (loop .bys)) (loop .inv .3) (c .before .before .before .before .before .before .before .before .before .before .before .before .before .before .before .loop-test .taken) goes _
-          (entered .ensures ∙ ap (λ (k : ℕ). enter (entry (record { 0 = getD (loop .numbers) (loop .from) 0 }) Flushed (a .slot) (record { 0 = k })) (lists (loop .fates) (loop .whens) (loop .bys))) (mark .ensures)),
+          (entered .ensures ∙ ap (λ (k : PacketNumber). enter (entry (record { 0 = getD (loop .numbers) (loop .from) 0 }) Flushed (a .slot) k) (lists (loop .fates) (loop .whens) (loop .bys))) (mark .ensures)),
     )
 
 mul-numbers : tie.Need-mul-numbers Inv-loop μ-loop
@@ -90,7 +91,7 @@ loop-again-2 : tie.Need-loop-again-2 Inv-loop μ-loop
 loop-again-2 c =
     let a = c .before .before .before .before .before .before .before .before .before .before .before .before .before .args in
     let loop = c .before .before .before .before .before .before .loop in
-    let stays = sym (ap (λ (k : ℕ). not (eqb k 0) && leb k (a .m)) (c .before .before .mark-of .ensures)) ∙ sym (c .before .goes-with .ensures) ∙ c .if1 .left in
+    let stays = sym (ap (λ (k : PacketNumber). not (eqb (k .0) 0) && leb (k .0) (a .m .0)) (c .before .before .mark-of .ensures)) ∙ sym (c .before .goes-with .ensures) ∙ c .if1 .left in
     (loop .inv .0, loop .inv .1, loop .inv .2, sifting-stays (a .m) (a .marks .now) (a .slot) (a .w .head) (a .w .tail) (a .numbers .now) (a .values .now) (lists (a .fates .now) (a .whens .now) (a .bys .now)) (loop .numbers) (loop .values) (loop .from) (loop .to) (lists (loop .fates) (loop .whens) (loop .bys)) (loop .inv .3) (c .before .before .before .before .before .loop-test .taken) stays)
 
 same-length : tie.Need-same-length Inv-loop μ-loop

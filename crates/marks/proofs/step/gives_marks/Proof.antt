@@ -1,5 +1,5 @@
 -- The value is tested first, then the packet's slot.
-use Prim.Native.Nat.{ℕ}
+use Rattle.model.specs.declared.Slot.{Slot}
 use mathlib.Core.Path.{ap}
 use lib.Dec.{eqb}
 use Rattle.marks.proofs.Marking.{both-fail, both-by-second}
@@ -10,11 +10,11 @@ use Rattle.marks.proofs.step.gives_marks.Tie as tie
 returns : tie.Need-returns
 returns c = both-fail _ _ _ (c .if1 .taken)
 
-entry-of-requires : tie.Need-entry-of-requires
-entry-of-requires c κs = search needs
+slot-of-requires : tie.Need-slot-of-requires
+slot-of-requires c κs = search needs
 
 returns-2 : tie.Need-returns-2
-returns-2 c = both-by-second _ _ _ _ (c .before .before .if1 .left) (ap (λ (s : ℕ). eqb s (c .before .before .before .before .before .args .slot .0)) (c .before .entry-of .ensures))
+returns-2 c = both-by-second _ _ _ _ (c .before .before .before .if1 .left) (ap (λ (s : Slot). eqb (s .0) (c .before .before .before .before .before .before .args .slot .0)) (c .before .before .slot-of .ensures))
 
 pub gives-marks-spec : {M : Type 1} → statement M
-gives-marks-spec = tie.close (tie.spec returns entry-of-requires returns-2)
+gives-marks-spec = tie.close (tie.spec returns slot-of-requires returns-2)

@@ -18,6 +18,7 @@ use Rattle.port.proofs.Parts.{sound-parts, room-fits, sound-placed}
 use Rattle.port.proofs.Calls.{chosen}
 use Rattle.port.proofs.Choices.{Allowed, now-allowed, by-choice, rest-placed, rest-holds}
 use borrow.Author.Needs.{needs}
+use Rattle.queue.proofs.Told.{told}
 use Rattle.port.proofs.Port.accept.Statement.{statement}
 use Rattle.port.proofs.Port.accept.Tie as tie
 
@@ -30,7 +31,7 @@ allowed : (c : tie.After-decide) (choice : Choice) → c .decide .result ≡ cho
 allowed c choice e =
     let start = c .before .before .before .before .before .before in
     now-allowed (stateOf (start .args .self)) (values-whole (start .args .self) (start .good .0)) (numbers-whole (start .args .self) (start .good .0)) (start .args .value) choice
-    (sym (c .decide .ensures) ∙ e) (placed start .0)
+    (sym (told _ _ (c .decide .ensures)) ∙ e) (placed start .0)
 
 answered : (c : tie.After-decide) (choice : Choice) → c .decide .result ≡ choice
     → chosen (stateOf (c .before .before .before .before .before .before .args .self)) (c .before .before .before .before .before .before .args .value)
@@ -43,7 +44,7 @@ answered : (c : tie.After-decide) (choice : Choice) → c .decide .result ≡ ch
 answered c choice e =
     let start = c .before .before .before .before .before .before in
     by-choice (stateOf (start .args .self)) (values-whole (start .args .self) (start .good .0)) (numbers-whole (start .args .self) (start .good .0)) (start .args .value) choice
-    (sym (c .decide .ensures) ∙ e) (start .pre .0) (start .pre .1 .0) (start .pre .1 .1)
+    (sym (told _ _ (c .decide .ensures)) ∙ e) (start .pre .0) (start .pre .1 .0) (start .pre .1 .1)
 
 add-t14 : tie.Need-add-t14
 add-t14 c = search needs

@@ -1,5 +1,7 @@
 use mathlib.Core.Path.{sym, ap, _∙_}
-use Rattle.model.specs.Calls.{pgCall}
+use Rattle.model.specs.Packets.{arrivals}
+use Rattle.model.specs.Calls.{ran, pgCall}
+use Rattle.laws.proofs.PG.{pg-run}
 use Rattle.trace.specs.Checked.{verdictOf}
 use Rattle.steps.proofs.Answering.{refused, not-refused}
 use Rattle.runs.proofs.Ready.{pg-ready}
@@ -51,7 +53,10 @@ returns-2 : tie.Need-returns-2
 unfolding pgCall
 returns-2 c =
     let accepted = ap verdictOf (sym (c .before .before .before .before .before .before .before .before .before .before .enum-told .given .1)) ∙ c .before .before .before .before .before .before .before .before .before .before .before .before .pg .ensures in
-    c .before .before .before .before .before .before .finish .ensures ∙ not-refused _ _ _ accepted
+    let a = c .before .before .before .before .before .before .before .before .before .before .before .before .before .before .before .before .before .before .before .before .before .args in
+    c .before .before .before .before .before .before .finish .ensures
+    ∙ ap (ran (a .slots .now) (a .values .now)) (sym (pg-run (a .room) (a .beta) (arrivals (a .slots .now) (a .values .now))))
+    ∙ not-refused _ _ _ accepted
 
 pub pg-spec : {M : Type 1} → statement M
 pg-spec =

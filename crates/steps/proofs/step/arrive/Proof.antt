@@ -4,6 +4,7 @@ use Rattle.queue.specs.declared.Choice.the-variants.{Hold, Reject}
 use Rattle.steps.proofs.Windows.{part-length}
 use Rattle.steps.proofs.Arriving.{held as hold-steps, rejected as reject-steps, by-rule, lost-inside}
 use borrow.Author.Needs.{needs}
+use Rattle.queue.proofs.Told.{told}
 use Rattle.steps.proofs.step.arrive.Statement.{statement}
 use Rattle.steps.proofs.step.arrive.Tie as tie
 
@@ -42,7 +43,7 @@ replace-requires c κs =
     let start = c .before .before .before .before .before .before .before .before .before .before .before .before .before .before .before .before in
     let a = start .args in
     let decided = c .before .before .before .before .before .before .before .before .decide in
-    let chosen = sym (decided .ensures) ∙ c .before .before .before .before .before .before .place .given .1 in
+    let chosen = sym (told _ _ (decided .ensures)) ∙ c .before .before .before .before .before .before .place .given .1 in
     let inside = lost-inside (a .room) (a .rule) _ (a .p .value) _ _ chosen in
     (start .pre .0, omega (arith, inside, part-length (a .w) (a .values .now) (start .pre .0 .inside)))
 
@@ -58,7 +59,7 @@ returns c =
     let a = start .args in
     let held = c .before .before .before .before .hold in
     by-rule (a .w) (a .numbers .now) (a .values .now) (start .pre .0) (a .slot) (a .p) _ (a .room) (a .rule) Hold
-    (sym (c .before .before .before .before .before .before .before .before .before .decide .ensures) ∙ c .before .before .before .before .before .before .before .enum-told .given .1) (held .result) (held .last .0) (held .last .1 .0) _
+    (sym (told _ _ (c .before .before .before .before .before .before .before .before .before .decide .ensures)) ∙ c .before .before .before .before .before .before .before .enum-told .given .1) (held .result) (held .last .0) (held .last .1 .0) _
     (hold-steps (a .w) (a .numbers .now) (a .values .now) (start .pre .0) (a .slot) (a .p) _ (held .result) (held .last .0) (held .last .1 .0) (held .ensures))
 
 same-length-3 : tie.Need-same-length-3
@@ -78,7 +79,7 @@ returns-2 c =
     let start = c .before .before .before .before .before .before .before .before .before .before .before .before .before .before .before .before .before .before .before .before in
     let a = start .args in
     by-rule (a .w) (a .numbers .now) (a .values .now) (start .pre .0) (a .slot) (a .p) _ (a .room) (a .rule) Reject
-    (sym (c .before .before .before .before .before .before .before .before .before .before .before .before .decide .ensures) ∙ c .before .before .before .before .before .before .before .before .before .before .enum-told2 .given .1) (a .w) (a .numbers .now) (a .values .now) _
+    (sym (told _ _ (c .before .before .before .before .before .before .before .before .before .before .before .before .decide .ensures)) ∙ c .before .before .before .before .before .before .before .before .before .before .enum-told2 .given .1) (a .w) (a .numbers .now) (a .values .now) _
     (reject-steps (a .w) (a .numbers .now) (a .values .now) (start .pre .0) (a .slot) (a .p) _ _ (c .before .before .before .before .before .before .enter .ensures))
 
 same-length-7 : tie.Need-same-length-7
@@ -102,7 +103,7 @@ returns-3 c =
     let a = start .args in
     let replaced = c .before .before .before .before .before .before .before .before .before .before .replace in
     by-rule (a .w) (a .numbers .now) (a .values .now) (start .pre .0) (a .slot) (a .p) _ (a .room) (a .rule) _
-    (sym (c .before .before .before .before .before .before .before .before .before .before .before .before .before .before .before .before .before .before .before .decide .ensures) ∙ c .before .before .before .before .before .before .before .before .before .before .before .before .before .before .before .before .before .place .given .1) (replaced .result) (replaced .last .0) (replaced .last .1 .0) _ (replaced .ensures)
+    (sym (told _ _ (c .before .before .before .before .before .before .before .before .before .before .before .before .before .before .before .before .before .before .before .decide .ensures)) ∙ c .before .before .before .before .before .before .before .before .before .before .before .before .before .before .before .before .before .place .given .1) (replaced .result) (replaced .last .0) (replaced .last .1 .0) _ (replaced .ensures)
 
 pub arrive-spec : {M : Type 1} → statement M
 arrive-spec =
