@@ -46,7 +46,8 @@ returns c =
     (start .pre .0) (start .pre .1) done (ended .kept .1 .0) in
     turned (a .room) (markingOf (a .lo) (a .hi) (a .r)) (a .slots .now) (a .before) (arrival (a .slot) (a .p)) (windowOf (a .w) (a .numbers .now) (a .values .now)) (a .marks .now) (lists (a .fates .now) (a .whens .now) (a .bys .now))
     (lists (ended .last .1 .1 .1 .1 .0) (ended .last .1 .1 .1 .1 .1 .0) (ended .last .1 .1 .1 .1 .1 .1 .0)) (lists (arrived .last .1 .1 .0) (arrived .last .1 .1 .1 .0) (arrived .last .1 .1 .1 .1 .0))
-    (ended .result) (arrived .result) (ended .last .0) (ended .last .1 .0) (arrived .last .0) (arrived .last .1 .0) (ended .last .1 .1 .1 .0) done (arrived .ensures .passed (free-place (ended .result) (ended .last .0) (ended .last .1 .0) (done .within) free))
+    (ended .result) (arrived .result) (ended .last .0) (ended .last .1 .0) (arrived .last .0) (arrived .last .1 .0) (ended .last .1 .1 .1 .0) done
+    (arrived-steps (ended .result) (ended .last .0) (ended .last .1 .0) (free-place (ended .result) (ended .last .0) (ended .last .1 .0) (done .within) free) (a .room) Greedy (arrival (a .slot) (a .p)) (lists (ended .last .1 .1 .1 .1 .0) (ended .last .1 .1 .1 .1 .1 .0) (ended .last .1 .1 .1 .1 .1 .1 .0)) (lists (arrived .last .1 .1 .0) (arrived .last .1 .1 .1 .0) (arrived .last .1 .1 .1 .1 .0)) (arrived .result) (arrived .last .0) (arrived .last .1 .0) (arrived .ensures))
 
 pub take-spec : {M : Type 1} → statement M
 take-spec =
