@@ -16,7 +16,7 @@ use Rattle.queue.specs.declared.Choice.the-variants.{Hold, Reject}
 use Rattle.queue.specs.Choose.{applied}
 use Rattle.steps.specs.declared.Window.{Window}
 use Rattle.entry.specs.Entry.{entry}
-use Rattle.steps.specs.Window.{windowOf, Within, Holds}
+use Rattle.steps.specs.Window.{windowOf, Within}
 use Rattle.steps.specs.Lent.{lent, holding, moved, sendingIn}
 use Rattle.steps.specs.Step.{Stepped, arrival, sending, turning}
 use Rattle.steps.specs.Places.{packetAt}

@@ -31,7 +31,7 @@ use Rattle.steps.proofs.Arriving.{window-length, Inside, chosen-inside}
 use Rattle.steps.proofs.Guarding.{within-lies, place-within, place-free}
 use Rattle.steps.proofs.Placing.{placed-holds, without-length}
 
-abbrev Held : Lent → List Packet → Type 0
+abbrev pub Held : Lent → List Packet → Type 0
 Held l queue = Holds (l .window) (l .numbers) (l .values) queue
 
 -- the ends of n slots send the n oldest, as far as packets are held
@@ -136,6 +136,10 @@ module _ (w : Window) (numbers values : List ℕ) where
             to (length queue) (omega (arith, length-drop n queue, is, W .ordered)) (omega (arith, is, W .ordered))
             (drop-length queue ∙ sym (drop-of-length-le queue none))
 
+    -- that is the window that sendings leave
+    left-window : (n : ℕ) → Held (leaving (drop n queue) all) (drop n queue)
+    left-window n = record { within = record { ordered = omega arith; inside = W .inside; same = W .same }; is = window-left n }
+
     pub sent-steps : (now until : Slot) (before after : Lists) (r : Window) → moved (lent r numbers values) after ≡ sendingIn now until all before
         → Stepped (sending now until queue) before r numbers values after
     unfolding sendingIn sending
@@ -154,3 +158,7 @@ module _ (w : Window) (numbers values : List ℕ) where
               ∙ sym next;
           written = ap (λ (m : Moved). m .written) done;
         }
+
+pub left-holds : (l : Lent) (queue : List Packet) → Held l queue → (n : ℕ) → Held (leaving (drop n queue) l) (drop n queue)
+left-holds l queue H n =
+    subst (λ (q : List Packet). Held (leaving (drop n q) l) (drop n q)) (H .is) (left-window (l .window) (l .numbers) (l .values) (H .within) n)

@@ -25,6 +25,13 @@ pub same-lent : {w w′ : Window} {numbers numbers′ values values′ : List �
     → lent w numbers values ≡ lent w′ numbers′ values′
 same-lent a b c = rw (a, b, c) refl
 
+-- no packet written
+pub placed-none : (place : ℕ) (w : Window) (numbers values : List ℕ) → lent (window place place) numbers values ≡ placed place [] (lent w numbers values)
+unfolding placed
+placed-none place w numbers values =
+    let end : place ≡ place + 0 = omega arith in
+    same-lent (ap (window place) end) refl refl
+
 module _ (place : ℕ) (queue : List Packet) (l : Lent) where
   -- a queue that fits into the lists is what the window holds
   pub placed-holds : place + length queue ≤ length (l .values) → length (l .numbers) ≡ length (l .values)

@@ -1,12 +1,12 @@
 -- The loop of every run, under the rule of greedy or PG.
-use Prim.Native.Nat.{max, _-_}
+use Prim.Native.Nat.{max, _+_, _-_}
 use mathlib.Core.Path.{_≡_, refl, _∙_}
 use mathlib.Core.Logic.{⊎-elim}
 use native.Mathlib.Omega.{arith}
 use lib.ListN.{length}
 use Rattle.queue.specs.Choose.{ruleOf}
 use Rattle.entry.specs.Entry.{lists}
-use Rattle.steps.proofs.Guarding.{within-lies}
+use Rattle.steps.proofs.Lending.{sent-steps}
 use Rattle.steps.proofs.Running.{Going, going-start, going-turn, going-end}
 use borrow.Author.Needs.{needs}
 use Rattle.runs.proofs.run.run.Statement.{statement}

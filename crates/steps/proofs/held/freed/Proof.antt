@@ -28,9 +28,11 @@ same-length-2 c = search needs
 returns-2 : tie.Need-returns-2
 returns-2 c =
     let start = c .before .before .before .before .before .before .before .before .before .before .before in
-    let a = start .args in
-    (rw (c .before .before .before .before .before .before .slide .ensures, c .before .before .slide2 .ensures)
-    (open-start (a .w) (a .numbers .now) (a .values .now) (start .pre .0) (omega arith)), search needs)
+    let a = start .args in (
+      rw (c .before .before .before .before .before .before .slide .ensures, c .before .before .slide2 .ensures)
+          (open-start (a .w) (a .numbers .now) (a .values .now) (start .pre .0) (omega arith)),
+      search needs,
+    )
 
 pub freed-spec : {M : Type 1} → statement M
 freed-spec =

@@ -41,9 +41,11 @@ returns : tie.Need-returns Inv-loop μ-loop
 returns c =
     let loop = c .before .before .before .before in
     let a = loop .before .before .before .before .before .before .args in
-    let k = c .match .keys2 in
-    (left-idle (a .numbers .now) (a .values .now) (a .w .tail) (a .until .0) (a .w .head) (a .from .0) _ (loop .loop .head) (loop .loop .slot) _ (loop .loop .inv .3)
-    (λ p e. ⊎-elim (λ t. omega arith) (λ t. omega arith) (rw (c .before .oldest .ensures ∙ e) at k)), refl)
+    let k = c .match .keys2 in (
+      left-idle (a .numbers .now) (a .values .now) (a .w .tail) (a .until .0) (a .w .head) (a .from .0) _ (loop .loop .head) (loop .loop .slot) _ (loop .loop .inv .3)
+          (λ p e. ⊎-elim (λ t. omega arith) (λ t. omega arith) (rw (c .before .oldest .ensures ∙ e) at k)),
+      refl,
+    )
 
 enter-requires : tie.Need-enter-requires Inv-loop μ-loop
 enter-requires c κs = search needs
