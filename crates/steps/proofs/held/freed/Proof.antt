@@ -8,7 +8,7 @@ returns : tie.Need-returns
 returns c =
     let start = c .before .before .before in
     let a = start .args in
-    (open-here (a .w) (a .numbers .now) (a .values .now) (start .pre .0) (c .if1 .taken), c .if1 .taken)
+    (open-here (a .w) (a .numbers .now) (a .values .now) (start .pre .0) (omega arith), omega arith)
 
 slide-requires : tie.Need-slide-requires
 slide-requires c κs = search needs
