@@ -34,7 +34,7 @@ pub fn send_until(
     until: Slot,
 ) -> Window
     requires { ⌜ Within w (now numbers) (now values) ⌝ }
-    ensures { λ r. ⌜ Stepped (sending from until (windowOf w (now (numbers .entry)) (now (values .entry)))) (lists (now (fates .entry)) (now (whens .entry)) (now (bys .entry))) r (now (numbers .entry)) (now (values .entry)) (lists (now (fates .exit)) (now (whens .exit)) (now (bys .exit))) × (r .tail ≡ w .tail) ⌝ }
+    ensures { λ r. ⌜ (r .tail ≡ w .tail) × Stepped (sending from until (windowOf w (now (numbers .entry)) (now (values .entry)))) (lists (now (fates .entry)) (now (whens .entry)) (now (bys .entry))) r (now (numbers .entry)) (now (values .entry)) (lists (now (fates .exit)) (now (whens .exit)) (now (bys .exit))) ⌝ }
 {
     let mut head = w.head;
     let tail = w.tail;

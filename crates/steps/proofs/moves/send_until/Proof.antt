@@ -34,7 +34,7 @@ returns-2 c =
     let sent = c .before .before .before .before .before .before .send-until in
     sendings-kept (a .w) (a .numbers .now) (a .values .now) (a .from) (a .until) (lists (a .fates .now) (a .whens .now) (a .bys .now))
     (sent .result) (lists (sent .last .1 .1 .0) (sent .last .1 .1 .1 .0) (sent .last .1 .1 .1 .1 .0))
-    (sym (c .before .before .before .before .before .before .before .before .before .before .before .lies-within .ensures) ∙ not-false _ (c .before .before .before .before .before .before .before .before .before .before .if1 .left)) (sent .ensures .0) (sent .ensures .1)
+    (sym (c .before .before .before .before .before .before .before .before .before .before .before .lies-within .ensures) ∙ not-false _ (c .before .before .before .before .before .before .before .before .before .before .if1 .left)) (sent .ensures .1) (sent .ensures .0)
 
 pub send-until-spec : {M : Type 1} → statement M
 send-until-spec = tie.close (tie.spec lies-within-requires returns send-until-requires same-length same-length-2 same-length-3 returns-2)

@@ -42,9 +42,9 @@ returns c =
     let loop = c .before .before .before .before in
     let a = loop .before .before .before .before .before .before .args in
     let k = c .match .keys2 in (
+      refl,
       left-idle (a .numbers .now) (a .values .now) (a .w .tail) (a .until .0) (a .w .head) (a .from .0) _ (loop .loop .head) (loop .loop .slot) _ (loop .loop .inv .3)
           (λ p e. ⊎-elim (λ t. omega arith) (λ t. omega arith) (rw (c .before .oldest .ensures ∙ e) at k)),
-      refl,
     )
 
 enter-requires : tie.Need-enter-requires Inv-loop μ-loop
@@ -84,7 +84,7 @@ returns-2 : tie.Need-returns-2 Inv-loop μ-loop
 returns-2 c =
     let loop = c .before .before in
     let a = loop .before .before .before .before .before .before .args in
-    (left-none (a .numbers .now) (a .values .now) (a .w .tail) (a .until .0) (a .w .head) (a .from .0) _ (loop .loop .head) (loop .loop .slot) _ (loop .loop .inv .3) (omega arith), refl)
+    (refl, left-none (a .numbers .now) (a .values .now) (a .w .tail) (a .until .0) (a .w .head) (a .from .0) _ (loop .loop .head) (loop .loop .slot) _ (loop .loop .inv .3) (omega arith))
 
 pub send-until-spec : {M : Type 1} → statement M
 send-until-spec =
