@@ -22,7 +22,9 @@ use Rattle.steps.specs.Window.{windowOf, Within}
 use Rattle.steps.specs.Step.{Stepped}
 use Rattle.marks.specs.Mark.{packetIn}
 use Rattle.flush.specs.Flush.{flushing}
+use Rattle.steps.specs.Lent.{lent, placed}
 use Rattle.steps.proofs.Windows.{window, window-cons, window-none, stored}
+use Rattle.steps.proofs.Placing.{placed-none, placed-own, placed-behind}
 
 -- a packet with no mark stays
 pub none-stays : (mark m : ℕ) → mark ≡ 0 → false ≡ (not (eqb mark 0) && leb mark m)
@@ -54,10 +56,13 @@ module _ (m : PacketNumber) (marks : List ℕ) (slot : Slot) (head tail : ℕ) (
         ≡ unflushed m marks (windowOf (window head tail) numbers₀ values₀)
     pub goes : entered (flushed slot m marks (windowOf (window from tail) numbers values)) now
         ≡ entered (flushed slot m marks (windowOf (window head tail) numbers₀ values₀)) before
+    pub covers : lent (window head to) numbers values
+        ≡ placed head (windowOf (window head to) numbers values) (lent (window head tail) numbers₀ values₀)
 
   pub sifting-all : Within (window head tail) numbers₀ values₀ → Sifting numbers₀ values₀ head head before
   sifting-all W =
       let H : Within (window head head) numbers₀ values₀ = record { ordered = omega arith; inside = omega (arith, W .ordered, W .inside); same = W .same } in
+      let none = window-none head head numbers₀ values₀ H (omega arith) in
       record {
         ordered = omega arith;
         behind = omega arith;
@@ -66,8 +71,9 @@ module _ (m : PacketNumber) (marks : List ℕ) (slot : Slot) (head tail : ℕ) (
         same = W .same;
         numbers-kept = refl;
         values-kept = refl;
-        stays = ap (λ (queue : List Packet). queue ++ unflushed m marks (windowOf (window head tail) numbers₀ values₀)) (window-none head head numbers₀ values₀ H (omega arith));
+        stays = ap (λ (queue : List Packet). queue ++ unflushed m marks (windowOf (window head tail) numbers₀ values₀)) none;
         goes = refl;
+        covers = placed-none head (window head tail) numbers₀ values₀ ∙ ap (λ (queue : List Packet). placed head queue (lent (window head tail) numbers₀ values₀)) (sym none);
       }
 
   module _ (numbers values : List ℕ) (from to : ℕ) (now : Lists) (S : Sifting numbers values from to now) where
@@ -79,16 +85,21 @@ module _ (m : PacketNumber) (marks : List ℕ) (slot : Slot) (head tail : ℕ) (
 
     pub sifting-none : tail ≤ from
         → Stepped (flushing slot m marks (windowOf (window head tail) numbers₀ values₀)) before (window head to) numbers values now
+        × (lent (window head to) numbers values ≡ placed head (unflushed m marks (windowOf (window head tail) numbers₀ values₀)) (lent (window head tail) numbers₀ values₀))
     unfolding entered flushed unflushed
     sifting-none h =
         let none = window-none from tail numbers values left h in
-        record {
-          within = held;
-          queue = sym (append-nil (windowOf (window head to) numbers values))
-              ∙ sym (ap (λ (queue : List Packet). windowOf (window head to) numbers values ++ unflushed m marks queue) none)
-              ∙ S .stays;
-          written = sym (ap (λ (queue : List Packet). entered (flushed slot m marks queue) now) none) ∙ S .goes;
-        }
+        let all-stay : windowOf (window head to) numbers values ≡ unflushed m marks (windowOf (window head tail) numbers₀ values₀) =
+        sym (append-nil (windowOf (window head to) numbers values))
+        ∙ sym (ap (λ (queue : List Packet). windowOf (window head to) numbers values ++ unflushed m marks queue) none)
+        ∙ S .stays in (
+          record {
+            within = held;
+            queue = all-stay;
+            written = sym (ap (λ (queue : List Packet). entered (flushed slot m marks queue) now) none) ∙ S .goes;
+          },
+          S .covers ∙ ap (λ (queue : List Packet). placed head queue (lent (window head tail) numbers₀ values₀)) all-stay,
+        )
 
     abbrev next : Packet
     next = packetIn numbers values from
@@ -118,6 +129,7 @@ module _ (m : PacketNumber) (marks : List ℕ) (slot : Slot) (head tail : ℕ) (
             goes = ap (entered (flushed slot m marks behind)) e
                 ∙ sym (ap (λ (es : List Entry). entered es now) (ap (flushed slot m marks) cons ∙ goes-in m marks next behind slot true t))
                 ∙ S .goes;
+            covers = S .covers;
           }
 
       pub sifting-stays : goesWith m marks next ≡ false
@@ -145,6 +157,8 @@ module _ (m : PacketNumber) (marks : List ℕ) (slot : Slot) (head tail : ℕ) (
             goes = ap (λ (queue : List Packet). entered (flushed slot m marks queue) now) rest
                 ∙ sym (ap (λ (es : List Entry). entered es now) (ap (flushed slot m marks) cons ∙ goes-in m marks next behind slot false t))
                 ∙ S .goes;
+            covers = placed-behind head (windowOf (window head to) numbers values) (lent (window head tail) numbers₀ values₀) next (lent (window head to) numbers values) (S .covers)
+                ∙ ap (λ (queue : List Packet). placed head queue (lent (window head tail) numbers₀ values₀)) (sym (more .is));
           }
 
 -- no mark
@@ -171,11 +185,15 @@ flushed-none slot marks (p ∷ queue) = rw (never-goes marks p) (flushed-none sl
 
 pub nothing-goes : (m : PacketNumber) (marks : List ℕ) (slot : Slot) (w : Window) (numbers values : List ℕ) (now : Lists) → Within w numbers values → m .0 ≡ 0
     → Stepped (flushing slot m marks (windowOf w numbers values)) now w numbers values now
+    × (lent w numbers values ≡ placed (w .head) (unflushed m marks (windowOf w numbers values)) (lent w numbers values))
 unfolding entered
 nothing-goes m marks slot w numbers values now W e =
     let queue = windowOf w numbers values in
-    record {
-      within = W;
-      queue = sym (ap (λ (k : ℕ). unflushed (record { 0 = k }) marks queue) e ∙ unflushed-none marks queue);
-      written = sym (ap (λ (es : List Entry). entered es now) (ap (λ (k : ℕ). flushed slot (record { 0 = k }) marks queue) e ∙ flushed-none slot marks queue));
-    }
+    let all-stay : queue ≡ unflushed m marks queue = sym (ap (λ (k : ℕ). unflushed (record { 0 = k }) marks queue) e ∙ unflushed-none marks queue) in (
+      record {
+        within = W;
+        queue = all-stay;
+        written = sym (ap (λ (es : List Entry). entered es now) (ap (λ (k : ℕ). flushed slot (record { 0 = k }) marks queue) e ∙ flushed-none slot marks queue));
+      },
+      sym (placed-own w numbers values W) ∙ ap (λ (q : List Packet). placed (w .head) q (lent w numbers values)) all-stay,
+    )

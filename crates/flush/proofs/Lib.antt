@@ -1,3 +1,4 @@
 pub mod Flushing
 pub mod Ending
 pub mod Finishing
+pub mod Leaving

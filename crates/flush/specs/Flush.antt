@@ -1,16 +1,19 @@
 -- What a flush and the end of a slot do under MF.
-use Prim.Native.Nat.{ℕ}
+use Prim.Native.Nat.{ℕ, zero, suc}
 use mathlib.Core.Path.{_≡_}
-use mathlib.Core.List.{List}
+use mathlib.Core.Bool.{cond}
+use mathlib.Core.List.{List, [], _∷_}
 use Rattle.model.specs.declared.PacketNumber.{PacketNumber}
 use Rattle.model.specs.declared.Packet.{Packet}
 use Rattle.model.specs.declared.Slot.{Slot}
 use Rattle.model.specs.Record.{Lists, entered}
-use Rattle.model.specs.Packets.{slotsUntil}
-use Rattle.model.specs.Course.{Step, slotEnds}
-use Rattle.model.specs.Policies.MF.{Marking, Marked, flushed, unflushed, mfPolicy}
+use Rattle.model.specs.Packets.{slotsUntil, following}
+use Rattle.model.specs.Course.{Step, sendOldest, slotEnds}
+use Rattle.model.specs.Policies.MF.{Marking, Marked, marksAfter, headMark, flushed, unflushed, mfPolicy}
 use Rattle.steps.specs.declared.Window.{Window}
 use Rattle.steps.specs.Window.{Within, windowOf}
+use Rattle.steps.specs.Guarded.{liesWithin}
+use Rattle.steps.specs.Lent.{Lent, queueIn, placed, leaving}
 use Rattle.marks.specs.Mark.{beside}
 
 -- the flush under a head with mark m
@@ -30,3 +33,39 @@ finishing room M slots now s = mfPolicy room M slots .finish now s
 -- the ends of the slots before the next arrival
 unfoldable pub ending : ℕ → Marking → List ℕ → Slot → Slot → Marked → Step Marked
 ending room M slots now until s = slotEnds (mfPolicy room M slots) (slotsUntil now until) now s
+
+-- the end of a slot, to the last entry of the lists: what the flush leaves stands from the window's start on, and the oldest of it is sent
+abbrev pub endIn : ℕ → Marking → List ℕ → Slot → Marked → Lent → Lent
+endIn room M slots now s l =
+    let marks = marksAfter room M slots now s in
+    let left = unflushed (headMark marks (s .queue)) marks (s .queue) in
+    leaving (sendOldest now left .next) (placed (l .window .head) left l)
+
+-- the first where nothing is held, else the second
+abbrev pub whereHeld : List Packet → Lent → Lent → Lent
+whereHeld [] quiet busy = quiet
+whereHeld (p ∷ queue) quiet busy = busy
+
+-- the ends of n slots from now on
+unfoldable pub endsIn : ℕ → Marking → List ℕ → ℕ → Slot → Marked → Lent → Lent
+endsIn room M slots zero now s l = l
+endsIn room M slots (suc n) now s l =
+    whereHeld (s .queue) l (endsIn room M slots n (following now) (finishing room M slots now s .next) (endIn room M slots now s l))
+
+-- the window with its lists, beside the marks and the record's lists
+pub record MovedMF : Type 0 where
+  pub lent : Lent
+  pub marks : List ℕ
+  pub written : Lists
+
+abbrev pub movedMF : Lent → List ℕ → Lists → MovedMF
+movedMF l marks lists = record { lent = l; marks = marks; written = lists }
+
+-- the ends of the slots before the next arrival; where the window does not lie within its lists all is as before
+unfoldable pub endingIn : ℕ → Marking → List ℕ → Slot → Slot → Lent → List ℕ → Lists → MovedMF
+endingIn room M slots now until l marks lists =
+    let s = beside (queueIn l) marks in
+    let step = ending room M slots now until s in
+    cond (liesWithin (l .window) (l .numbers) (l .values))
+    (movedMF (endsIn room M slots (slotsUntil now until) now s l) (step .next .marks) (entered (step .entries) lists))
+    (movedMF l marks lists)

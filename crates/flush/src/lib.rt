@@ -2,10 +2,8 @@
 ghost use mathlib.Core.Path.{_≡_};
 ghost use Rattle.trace.specs.Checked.{markingOf};
 ghost use Rattle.entry.specs.Entry.{lists};
-ghost use Rattle.steps.specs.Window.{windowOf};
-ghost use Rattle.steps.specs.Guarded.{Guarded, liesWithin, Unmoved};
-ghost use Rattle.marks.specs.Mark.{beside};
-ghost use Rattle.flush.specs.Flush.{Finished, ending};
+ghost use Rattle.steps.specs.Lent.{lent};
+ghost use Rattle.flush.specs.Flush.{movedMF, endingIn};
 use model::Slot;
 use steps::Window;
 use steps::moves::lies_within;
@@ -30,7 +28,7 @@ pub fn end_slots(
     from: Slot,
     until: Slot,
 ) -> Window
-    ensures { λ v. ⌜ Guarded (liesWithin w (now (numbers .entry)) (now (values .entry))) (Finished (ending room (markingOf lo hi r) (now (slots .entry)) from until (beside (windowOf w (now (numbers .entry)) (now (values .entry))) (now (marks .entry)))) (lists (now (fates .entry)) (now (whens .entry)) (now (bys .entry))) v (now (numbers .exit)) (now (values .exit)) (now (marks .exit)) (lists (now (fates .exit)) (now (whens .exit)) (now (bys .exit)))) (Unmoved w (now (numbers .entry)) (now (values .entry)) v (now (numbers .exit)) (now (values .exit)) × (now (marks .exit) ≡ now (marks .entry)) × (lists (now (fates .exit)) (now (whens .exit)) (now (bys .exit)) ≡ lists (now (fates .entry)) (now (whens .entry)) (now (bys .entry)))) ⌝ }
+    ensures { λ v. ⌜ movedMF (lent v (now (numbers .exit)) (now (values .exit))) (now (marks .exit)) (lists (now (fates .exit)) (now (whens .exit)) (now (bys .exit))) ≡ endingIn room (markingOf lo hi r) (now (slots .entry)) from until (lent w (now (numbers .entry)) (now (values .entry))) (now (marks .entry)) (lists (now (fates .entry)) (now (whens .entry)) (now (bys .entry))) ⌝ }
 {
     if !lies_within(numbers, values, w) {
         return w;

@@ -2,10 +2,11 @@
 ghost use mathlib.Core.Path.{_≡_};
 ghost use mathlib.Core.Bool.{not, _&&_};
 ghost use lib.Dec.{eqb, leb};
-ghost use Rattle.model.specs.Policies.MF.{headMark};
+ghost use Rattle.model.specs.Policies.MF.{headMark, unflushed};
 ghost use Rattle.entry.specs.Entry.{lists};
 ghost use Rattle.steps.specs.Window.{windowOf, Within};
 ghost use Rattle.steps.specs.Step.{Stepped};
+ghost use Rattle.steps.specs.Lent.{lent, placed};
 ghost use Rattle.flush.specs.Flush.{flushing};
 use entry::enter;
 use marks::mark_of;
@@ -57,7 +58,7 @@ fn sift(
     slot: Slot,
 ) -> Window
     requires { ⌜ Within w (now numbers) (now values) ⌝ }
-    ensures { λ r. ⌜ Stepped (flushing slot m (now (marks .entry)) (windowOf w (now (numbers .entry)) (now (values .entry)))) (lists (now (fates .entry)) (now (whens .entry)) (now (bys .entry))) r (now (numbers .exit)) (now (values .exit)) (lists (now (fates .exit)) (now (whens .exit)) (now (bys .exit))) ⌝ }
+    ensures { λ r. ⌜ Stepped (flushing slot m (now (marks .entry)) (windowOf w (now (numbers .entry)) (now (values .entry)))) (lists (now (fates .entry)) (now (whens .entry)) (now (bys .entry))) r (now (numbers .exit)) (now (values .exit)) (lists (now (fates .exit)) (now (whens .exit)) (now (bys .exit))) × (lent r (now (numbers .exit)) (now (values .exit)) ≡ placed (w .head) (unflushed m (now (marks .entry)) (windowOf w (now (numbers .entry)) (now (values .entry)))) (lent w (now (numbers .entry)) (now (values .entry)))) ⌝ }
 {
     let head = w.head;
     let tail = w.tail;
@@ -94,7 +95,7 @@ pub fn flush(
     slot: Slot,
 ) -> Window
     requires { ⌜ Within w (now numbers) (now values) ⌝ }
-    ensures { λ r. ⌜ Stepped (flushing slot m (now (marks .entry)) (windowOf w (now (numbers .entry)) (now (values .entry)))) (lists (now (fates .entry)) (now (whens .entry)) (now (bys .entry))) r (now (numbers .exit)) (now (values .exit)) (lists (now (fates .exit)) (now (whens .exit)) (now (bys .exit))) ⌝ }
+    ensures { λ r. ⌜ Stepped (flushing slot m (now (marks .entry)) (windowOf w (now (numbers .entry)) (now (values .entry)))) (lists (now (fates .entry)) (now (whens .entry)) (now (bys .entry))) r (now (numbers .exit)) (now (values .exit)) (lists (now (fates .exit)) (now (whens .exit)) (now (bys .exit))) × (lent r (now (numbers .exit)) (now (values .exit)) ≡ placed (w .head) (unflushed m (now (marks .entry)) (windowOf w (now (numbers .entry)) (now (values .entry)))) (lent w (now (numbers .entry)) (now (values .entry)))) ⌝ }
 {
     if m.0 == 0 {
         return w;

@@ -1,3 +1,4 @@
 pub mod Cases
 pub mod Ordering
 pub mod Merging
+pub mod One

@@ -10,18 +10,19 @@ use Rattle.model.specs.declared.Packet.{Packet}
 use Rattle.model.specs.declared.Slot.{Slot}
 use Rattle.model.specs.declared.Fate.the-variants.{Rejected}
 use Rattle.model.specs.Record.{Lists, enter}
-use Rattle.model.specs.Course.{Step, Decided, andThen, byRule, held as holding, rejected as rejecting}
+use Rattle.model.specs.Course.{Step, Decided, andThen, byRule, held as heldDecision, rejected as rejectedDecision}
 use Rattle.model.specs.Policies.Plan.{keptRule}
 use Rattle.queue.specs.declared.Choice.the-variants.{Hold, Reject}
 use Rattle.queue.specs.Choose.{applied}
 use Rattle.steps.specs.declared.Window.{Window}
 use Rattle.entry.specs.Entry.{entry}
-use Rattle.steps.specs.Window.{windowOf, Within, Holds}
-use Rattle.steps.specs.Guarded.{Guarded, liesWithin, hasPlace, Unmoved}
+use Rattle.steps.specs.Window.{windowOf, Within}
+use Rattle.steps.specs.Lent.{lent, holding, moved, sendingIn}
 use Rattle.steps.specs.Step.{Stepped, arrival, sending, turning}
 use Rattle.steps.specs.Places.{packetAt}
 use Rattle.steps.specs.Run.{Runnable, Ran}
-use Rattle.steps.proofs.Guarding.{within-lies, free-place}
+use Rattle.steps.proofs.Guarding.{free-place}
+use Rattle.steps.proofs.Lending.{held-holds, sent-steps}
 use Rattle.steps.proofs.Arriving.{held, rejected}
 use Rattle.steps.proofs.Turning.{sent-free, turned}
 use Rattle.steps.proofs.Running.{Going, going-turn, going-end}
@@ -29,27 +30,24 @@ use Rattle.plan.specs.Plan.{heldIf}
 
 -- what the ends of slots answer of a window
 abbrev pub Sent : Window → List ℕ → List ℕ → Slot → Slot → Lists → Window → Lists → Type 0
-Sent w numbers values now until before r after =
-    Guarded (liesWithin w numbers values)
-    (Stepped (sending now until (windowOf w numbers values)) before r numbers values after)
-    (Unmoved w numbers values r numbers values × (after ≡ before))
+Sent w numbers values now until before r after = moved (lent r numbers values) after ≡ sendingIn now until (lent w numbers values) before
 
 module _ (w : Window) (numbers values : List ℕ) (W : Within w numbers values) where
   sent : (now until : Slot) (before after : Lists) (r : Window) → Sent w numbers values now until before r after
       → Stepped (sending now until (windowOf w numbers values)) before r numbers values after
-  sent now until before after r S = S .passed (within-lies w numbers values W)
+  sent now until before after r S = sent-steps w numbers values W now until before after r S
 
   -- one packet: the sendings before its slot, then it is held or rejected
   module _ (short : w .tail - w .head < length values) (now slot : Slot) (p : Packet) (before between : Lists) (left : Window) (S : Sent w numbers values now slot before left between) where
     pub take-held : (kept : Bool) → kept ≡ true → (r : Window) (numbers′ values′ : List ℕ)
-        → Guarded (hasPlace left numbers values) (Holds r numbers′ values′ (windowOf left numbers values ++ p ∷ [])) (Unmoved left numbers values r numbers′ values′)
+        → lent r numbers′ values′ ≡ holding p (lent left numbers values)
         → Stepped (turning (heldIf kept) now (arrival slot p) (windowOf w numbers values)) before r numbers′ values′ between
     take-held kept e r numbers′ values′ H =
         let done = sent now slot before between left S in
         let free = free-place left numbers values (done .within) (sent-free now slot w numbers values before between left W short done) in
         rw e
         (turned (applied Hold) now (arrival slot p) (windowOf w numbers values) before between between left r numbers values numbers′ values′ done
-        (held left numbers values (done .within) slot p between r numbers′ values′ (H .passed free)))
+        (held left numbers values (done .within) slot p between r numbers′ values′ (held-holds left numbers values free p r numbers′ values′ H)))
 
     pub take-rejected : (kept : Bool) → kept ≡ false → (after : Lists) → after ≡ enter (entry (p .number) Rejected slot (p .number)) between
         → Stepped (turning (heldIf kept) now (arrival slot p) (windowOf w numbers values)) before left numbers values after
@@ -67,7 +65,7 @@ kept-rule slots values kept i queue =
     let place : (i + 1) - 1 ≡ i = omega arith in
     rw place (either (eqb (getD kept i 0) 1))
   where
-    either : (t : Bool) → heldIf t queue (packetAt slots values i .packet) ≡ cond t (record { decision = holding; queue = queue ++ packetAt slots values i .packet ∷ [] }) (record { decision = rejecting; queue = queue })
+    either : (t : Bool) → heldIf t queue (packetAt slots values i .packet) ≡ cond t (record { decision = heldDecision; queue = queue ++ packetAt slots values i .packet ∷ [] }) (record { decision = rejectedDecision; queue = queue })
     either true = refl
     either false = refl
 

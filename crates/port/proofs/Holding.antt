@@ -50,7 +50,7 @@ packets-numbers [] (v ∷ values) same = absurd (omega arith)
 packets-numbers (k ∷ numbers) [] same = absurd (omega arith)
 packets-numbers (k ∷ numbers) (v ∷ values) same = ap (λ (ns : List ℕ). k ∷ ns) (packets-numbers numbers values (omega arith))
 
-packets-both : (queue : List Packet) → packetsOf (numbersOf queue) (valuesOf queue) ≡ queue
+pub packets-both : (queue : List Packet) → packetsOf (numbersOf queue) (valuesOf queue) ≡ queue
 unfolding packetsOf
 packets-both [] = refl
 packets-both (p ∷ queue) = ap (λ (q : List Packet). p ∷ q) (packets-both queue)

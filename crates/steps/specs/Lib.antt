@@ -1,6 +1,7 @@
 pub mod Window
 pub mod Step
 pub mod Guarded
+pub mod Lent
 pub mod Places
 pub mod Run
 pub mod Calls

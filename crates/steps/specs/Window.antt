@@ -1,5 +1,5 @@
 -- What a window of two lists holds.
-use Prim.Native.Nat.{ℕ, _-_, _≤_, _<_}
+use Prim.Native.Nat.{ℕ, _-_, _≤_}
 use mathlib.Core.Path.{_≡_}
 use mathlib.Core.List.{List, [], _∷_}
 use lib.ListN.{length, take, drop}
@@ -26,12 +26,6 @@ pub record Within (w : Window) (numbers values : List ℕ) : Type 0 where
   pub ordered : w .head ≤ w .tail
   pub inside : w .tail ≤ length values
   pub same : length numbers ≡ length values
-
--- the same queue, with a free place behind it
-pub record Opened (w : Window) (numbers values : List ℕ) (r : Window) (numbers′ values′ : List ℕ) : Type 0 where
-  pub within : Within r numbers′ values′
-  pub free : r .tail < length values′
-  pub queue : windowOf r numbers′ values′ ≡ windowOf w numbers values
 
 -- a window within its lists, and the queue that it holds
 pub record Holds (w : Window) (numbers values : List ℕ) (queue : List Packet) : Type 0 where

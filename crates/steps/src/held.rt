@@ -4,7 +4,8 @@ ghost use mathlib.Core.List.{[], _∷_, _++_};
 ghost use Prim.Native.Nat.{_+_, _-_, _<_};
 ghost use lib.ListN.{length};
 ghost use Rattle.model.specs.Policies.Greedy.{without};
-ghost use Rattle.steps.specs.Window.{windowOf, Within, Opened, Holds, oldestOf};
+ghost use Rattle.steps.specs.Window.{windowOf, Within, oldestOf};
+ghost use Rattle.steps.specs.Lent.{lent, placed, openPlace};
 use crate::Window;
 use model::Packet;
 use model::PacketNumber;
@@ -15,7 +16,7 @@ use queue::slide;
 fn freed(numbers: &mut [u32], values: &mut [u32], w: Window) -> Window
     requires { ⌜ Within w (now numbers) (now values) ⌝ }
     requires { ⌜ w .tail - w .head < length (now values) ⌝ }
-    ensures { λ r. ⌜ Opened w (now (numbers .entry)) (now (values .entry)) r (now (numbers .exit)) (now (values .exit)) ⌝ }
+    ensures { λ r. ⌜ (lent r (now (numbers .exit)) (now (values .exit)) ≡ placed (openPlace (lent w (now (numbers .entry)) (now (values .entry)))) (windowOf w (now (numbers .entry)) (now (values .entry))) (lent w (now (numbers .entry)) (now (values .entry)))) × (r .tail < length (now (values .exit))) ⌝ }
 {
     let head = w.head;
     let tail = w.tail;
@@ -34,7 +35,7 @@ fn freed(numbers: &mut [u32], values: &mut [u32], w: Window) -> Window
 pub fn hold(numbers: &mut [u32], values: &mut [u32], w: Window, p: Packet) -> Window
     requires { ⌜ Within w (now numbers) (now values) ⌝ }
     requires { ⌜ w .tail - w .head < length (now values) ⌝ }
-    ensures { λ r. ⌜ Holds r (now (numbers .exit)) (now (values .exit)) (windowOf w (now (numbers .entry)) (now (values .entry)) ++ p ∷ []) ⌝ }
+    ensures { λ r. ⌜ lent r (now (numbers .exit)) (now (values .exit)) ≡ placed (openPlace (lent w (now (numbers .entry)) (now (values .entry)))) (windowOf w (now (numbers .entry)) (now (values .entry)) ++ p ∷ []) (lent w (now (numbers .entry)) (now (values .entry))) ⌝ }
 {
     let o = freed(numbers, values, w);
     let head = o.head;
@@ -51,7 +52,7 @@ pub fn hold(numbers: &mut [u32], values: &mut [u32], w: Window, p: Packet) -> Wi
 pub fn lose(numbers: &mut [u32], values: &mut [u32], w: Window, place: usize) -> Window
     requires { ⌜ Within w (now numbers) (now values) ⌝ }
     requires { ⌜ w .head + place < w .tail ⌝ }
-    ensures { λ r. ⌜ Holds r (now (numbers .exit)) (now (values .exit)) (without place (windowOf w (now (numbers .entry)) (now (values .entry)))) ⌝ }
+    ensures { λ r. ⌜ lent r (now (numbers .exit)) (now (values .exit)) ≡ placed (w .head) (without place (windowOf w (now (numbers .entry)) (now (values .entry)))) (lent w (now (numbers .entry)) (now (values .entry))) ⌝ }
 {
     let at = w.head + place;
     let tail = w.tail;

@@ -1,12 +1,13 @@
 // What a run does to its queue, for all input: a window that does not lie within its lists, or has no place free where one is needed, is handed back, and
 // nothing is written.
 ghost use mathlib.Core.Path.{_≡_};
-ghost use mathlib.Core.List.{[], _∷_, _++_};
+ghost use mathlib.Core.List.{[]};
 ghost use Rattle.queue.specs.Choose.{ruleOf};
 ghost use Rattle.entry.specs.Entry.{lists};
-ghost use Rattle.steps.specs.Window.{windowOf, Holds, Oldest};
-ghost use Rattle.steps.specs.Step.{Stepped, arrival, arriving, sending};
-ghost use Rattle.steps.specs.Guarded.{Guarded, liesWithin, hasPlace, Unmoved};
+ghost use Rattle.steps.specs.Window.{windowOf, Oldest};
+ghost use Rattle.steps.specs.Step.{arrival};
+ghost use Rattle.steps.specs.Guarded.{Guarded, liesWithin, hasPlace};
+ghost use Rattle.steps.specs.Lent.{lent, holding, moved, arrivingIn, sendingIn};
 use crate::Window;
 use crate::held;
 use crate::step;
@@ -49,7 +50,7 @@ pub fn oldest(numbers: &[u32], values: &[u32], w: Window) -> SlotAnswer
 
 // Holds a packet.
 pub fn hold(numbers: &mut [u32], values: &mut [u32], w: Window, p: Packet) -> Window
-    ensures { λ r. ⌜ Guarded (hasPlace w (now (numbers .entry)) (now (values .entry))) (Holds r (now (numbers .exit)) (now (values .exit)) (windowOf w (now (numbers .entry)) (now (values .entry)) ++ p ∷ [])) (Unmoved w (now (numbers .entry)) (now (values .entry)) r (now (numbers .exit)) (now (values .exit))) ⌝ }
+    ensures { λ r. ⌜ lent r (now (numbers .exit)) (now (values .exit)) ≡ holding p (lent w (now (numbers .entry)) (now (values .entry))) ⌝ }
 {
     if !has_place(numbers, values, w) {
         return w;
@@ -68,7 +69,7 @@ pub fn send_until(
     from: Slot,
     until: Slot,
 ) -> Window
-    ensures { λ r. ⌜ Guarded (liesWithin w (now (numbers .entry)) (now (values .entry))) (Stepped (sending from until (windowOf w (now (numbers .entry)) (now (values .entry)))) (lists (now (fates .entry)) (now (whens .entry)) (now (bys .entry))) r (now (numbers .entry)) (now (values .entry)) (lists (now (fates .exit)) (now (whens .exit)) (now (bys .exit)))) (Unmoved w (now (numbers .entry)) (now (values .entry)) r (now (numbers .entry)) (now (values .entry)) × (lists (now (fates .exit)) (now (whens .exit)) (now (bys .exit)) ≡ lists (now (fates .entry)) (now (whens .entry)) (now (bys .entry)))) ⌝ }
+    ensures { λ r. ⌜ moved (lent r (now (numbers .entry)) (now (values .entry))) (lists (now (fates .exit)) (now (whens .exit)) (now (bys .exit))) ≡ sendingIn from until (lent w (now (numbers .entry)) (now (values .entry))) (lists (now (fates .entry)) (now (whens .entry)) (now (bys .entry))) ⌝ }
 {
     if !lies_within(numbers, values, w) {
         return w;
@@ -89,7 +90,7 @@ pub fn arrive(
     slot: Slot,
     p: Packet,
 ) -> Window
-    ensures { λ r. ⌜ Guarded (hasPlace w (now (numbers .entry)) (now (values .entry))) (Stepped (arriving (ruleOf room rule) (arrival slot p) (windowOf w (now (numbers .entry)) (now (values .entry)))) (lists (now (fates .entry)) (now (whens .entry)) (now (bys .entry))) r (now (numbers .exit)) (now (values .exit)) (lists (now (fates .exit)) (now (whens .exit)) (now (bys .exit)))) (Unmoved w (now (numbers .entry)) (now (values .entry)) r (now (numbers .exit)) (now (values .exit)) × (lists (now (fates .exit)) (now (whens .exit)) (now (bys .exit)) ≡ lists (now (fates .entry)) (now (whens .entry)) (now (bys .entry)))) ⌝ }
+    ensures { λ r. ⌜ moved (lent r (now (numbers .exit)) (now (values .exit))) (lists (now (fates .exit)) (now (whens .exit)) (now (bys .exit))) ≡ arrivingIn (ruleOf room rule) (arrival slot p) (lent w (now (numbers .entry)) (now (values .entry))) (lists (now (fates .entry)) (now (whens .entry)) (now (bys .entry))) ⌝ }
 {
     if !has_place(numbers, values, w) {
         return w;

@@ -1,10 +1,12 @@
 // What a slot brings to a window that lies within its two lists: arrivals, and the sendings at the ends of slots.
+ghost use mathlib.Core.Path.{_≡_};
 ghost use Prim.Native.Nat.{_+_, _-_, _<_};
 ghost use lib.ListN.{length};
 ghost use Rattle.queue.specs.Choose.{ruleOf, applied};
 ghost use Rattle.entry.specs.Entry.{lists};
 ghost use Rattle.steps.specs.Window.{windowOf, Within};
-ghost use Rattle.steps.specs.Step.{Stepped, arrival, arriving, sending};
+ghost use Rattle.steps.specs.Step.{Stepped, arrival, sending};
+ghost use Rattle.steps.specs.Lent.{lent, moved, deciding};
 use crate::Window;
 use crate::held::hold;
 use crate::held::lose;
@@ -32,7 +34,7 @@ pub fn send_until(
     until: Slot,
 ) -> Window
     requires { ⌜ Within w (now numbers) (now values) ⌝ }
-    ensures { λ r. ⌜ Stepped (sending from until (windowOf w (now (numbers .entry)) (now (values .entry)))) (lists (now (fates .entry)) (now (whens .entry)) (now (bys .entry))) r (now (numbers .entry)) (now (values .entry)) (lists (now (fates .exit)) (now (whens .exit)) (now (bys .exit))) ⌝ }
+    ensures { λ r. ⌜ (r .tail ≡ w .tail) × Stepped (sending from until (windowOf w (now (numbers .entry)) (now (values .entry)))) (lists (now (fates .entry)) (now (whens .entry)) (now (bys .entry))) r (now (numbers .entry)) (now (values .entry)) (lists (now (fates .exit)) (now (whens .exit)) (now (bys .exit))) ⌝ }
 {
     let mut head = w.head;
     let tail = w.tail;
@@ -71,7 +73,7 @@ fn replace(
 ) -> Window
     requires { ⌜ Within w (now numbers) (now values) ⌝ }
     requires { ⌜ w .head + place < w .tail ⌝ }
-    ensures { λ r. ⌜ Stepped (arriving (applied (Choice.Lose place kind)) (arrival slot p) (windowOf w (now (numbers .entry)) (now (values .entry)))) (lists (now (fates .entry)) (now (whens .entry)) (now (bys .entry))) r (now (numbers .exit)) (now (values .exit)) (lists (now (fates .exit)) (now (whens .exit)) (now (bys .exit))) ⌝ }
+    ensures { λ r. ⌜ moved (lent r (now (numbers .exit)) (now (values .exit))) (lists (now (fates .exit)) (now (whens .exit)) (now (bys .exit))) ≡ deciding (arrival slot p) (applied (Choice.Lose place kind) (windowOf w (now (numbers .entry)) (now (values .entry))) p) (lent w (now (numbers .entry)) (now (values .entry))) (lists (now (fates .entry)) (now (whens .entry)) (now (bys .entry))) ⌝ }
 {
     let at = w.head + place;
     let lost = PacketNumber(numbers[at]);
@@ -95,7 +97,7 @@ pub fn arrive(
 ) -> Window
     requires { ⌜ Within w (now numbers) (now values) ⌝ }
     requires { ⌜ w .tail - w .head < length (now values) ⌝ }
-    ensures { λ r. ⌜ Stepped (arriving (ruleOf room rule) (arrival slot p) (windowOf w (now (numbers .entry)) (now (values .entry)))) (lists (now (fates .entry)) (now (whens .entry)) (now (bys .entry))) r (now (numbers .exit)) (now (values .exit)) (lists (now (fates .exit)) (now (whens .exit)) (now (bys .exit))) ⌝ }
+    ensures { λ r. ⌜ moved (lent r (now (numbers .exit)) (now (values .exit))) (lists (now (fates .exit)) (now (whens .exit)) (now (bys .exit))) ≡ deciding (arrival slot p) (ruleOf room rule (windowOf w (now (numbers .entry)) (now (values .entry))) p) (lent w (now (numbers .entry)) (now (values .entry))) (lists (now (fates .entry)) (now (whens .entry)) (now (bys .entry))) ⌝ }
 {
     let head = w.head;
     let tail = w.tail;

@@ -1,7 +1,10 @@
--- The test of the window decides which promise is kept.
-use mathlib.Core.Path.{refl, sym, _∙_}
+-- The test of the window decides what is left.
+use mathlib.Core.Path.{sym, _∙_}
 use borrow.Author.Tests.{not-true, not-false}
-use Rattle.steps.proofs.Guarding.{by-pass, by-fail, lies-within}
+use Rattle.trace.specs.Checked.{markingOf}
+use Rattle.entry.specs.Entry.{lists}
+use Rattle.steps.proofs.Guarding.{lies-within}
+use Rattle.flush.proofs.Leaving.{ends-kept, none-ends}
 use borrow.Author.Needs.{needs}
 use Rattle.flush.proofs.end_slots.Statement.{statement}
 use Rattle.flush.proofs.end_slots.Tie as tie
@@ -16,7 +19,9 @@ same-length-2 : tie.Need-same-length-2
 same-length-2 c = search needs
 
 returns : tie.Need-returns
-returns c = by-fail (sym (c .before .lies-within .ensures) ∙ not-true _ (c .if1 .taken)) (record { same-window = refl; same-numbers = refl; same-values = refl }, refl, refl)
+returns c =
+    let a = c .before .before .before .before .before .before .before .before .before .before .before .args in
+    none-ends (a .room) (markingOf (a .lo) (a .hi) (a .r)) (a .slots .now) (a .from) (a .until) (a .w) (a .numbers .now) (a .values .now) (a .marks .now) (lists (a .fates .now) (a .whens .now) (a .bys .now)) (sym (c .before .lies-within .ensures) ∙ not-true _ (c .if1 .taken))
 
 end-slots-requires : tie.Need-end-slots-requires
 end-slots-requires c κs =
@@ -43,7 +48,11 @@ same-length-8 c = search needs
 
 returns-2 : tie.Need-returns-2
 returns-2 c =
-    by-pass (sym (c .before .before .before .before .before .before .before .before .before .before .before .before .before .before .before .before .before .before .before .before .lies-within .ensures) ∙ not-false _ (c .before .before .before .before .before .before .before .before .before .before .before .before .before .before .before .before .before .before .before .if1 .left)) (c .before .before .before .before .before .before .before .before .before .before .before .before .end-slots .ensures)
+    let a = c .before .before .before .before .before .before .before .before .before .before .before .before .before .before .before .before .before .before .before .before .before .before .before .before .before .before .before .before .before .before .args in
+    let ended = c .before .before .before .before .before .before .before .before .before .before .before .before .end-slots in
+    ends-kept (a .room) (markingOf (a .lo) (a .hi) (a .r)) (a .slots .now) (a .from) (a .until) (a .w) (a .numbers .now) (a .values .now) (a .marks .now) (lists (a .fates .now) (a .whens .now) (a .bys .now))
+    (ended .result) (ended .last .0) (ended .last .1 .0) (ended .last .1 .1 .1 .0) (lists (ended .last .1 .1 .1 .1 .0) (ended .last .1 .1 .1 .1 .1 .0) (ended .last .1 .1 .1 .1 .1 .1 .0))
+    (sym (c .before .before .before .before .before .before .before .before .before .before .before .before .before .before .before .before .before .before .before .before .lies-within .ensures) ∙ not-false _ (c .before .before .before .before .before .before .before .before .before .before .before .before .before .before .before .before .before .before .before .if1 .left)) (ended .ensures .0) (ended .ensures .1)
 
 pub end-slots-spec : {M : Type 1} → statement M
 end-slots-spec = tie.close (tie.spec lies-within-requires same-length same-length-2 returns end-slots-requires same-length-3 same-length-4 same-length-5 same-length-6 same-length-7 same-length-8 returns-2)

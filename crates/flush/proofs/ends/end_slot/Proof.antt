@@ -3,7 +3,9 @@ use Rattle.trace.specs.Checked.{markingOf}
 use Rattle.entry.specs.Entry.{lists}
 use Rattle.steps.specs.Window.{windowOf}
 use Rattle.steps.proofs.Guarding.{within-lies}
+use Rattle.steps.specs.Lent.{lent}
 use Rattle.flush.proofs.Finishing.{finished}
+use Rattle.flush.proofs.Leaving.{end-left}
 use borrow.Author.Needs.{needs}
 use Rattle.flush.proofs.ends.end_slot.Statement.{statement}
 use Rattle.flush.proofs.ends.end_slot.Tie as tie
@@ -45,9 +47,17 @@ returns c =
     let marked = c .before .before .before .before .before .before .before .before .before .before .before .before .before .before .before .before .before .before .before .before .before .before .before .before .before .before .before .before .before .before .before .before .before .before .before .mark in
     let flushed = c .before .before .before .before .before .before .before .before .before .before .before .before .before .before .before .before .before .before .before .before .before .before .flush in
     let sent = c .before .before .before .before .before .before .send in
-    finished (a .room) (markingOf (a .lo) (a .hi) (a .r)) (a .slots .now) (a .slot) (windowOf (a .w) (a .numbers .now) (a .values .now)) (a .marks .now)
-    (marked .last .1 .1 .1 .0) (marked .ensures .passed (within-lies (a .w) (a .numbers .now) (a .values .now) (start .pre))) (c .before .before .before .before .before .before .before .before .before .before .before .before .before .before .before .before .before .before .before .before .before .before .before .before .before .before .before .before .before .head-mark .result) (c .before .before .before .before .before .before .before .before .before .before .before .before .before .before .before .before .before .before .before .before .before .before .before .before .before .before .before .before .before .head-mark .ensures)
-    (lists (a .fates .now) (a .whens .now) (a .bys .now)) _ _ (flushed .result) (sent .result) (flushed .last .0) (flushed .last .1 .0) (flushed .ensures) (sent .ensures)
+    let head = c .before .before .before .before .before .before .before .before .before .before .before .before .before .before .before .before .before .before .before .before .before .before .before .before .before .before .before .before .before .head-mark in
+    let queue = windowOf (a .w) (a .numbers .now) (a .values .now) in
+    let by-slot = marked .ensures .passed (within-lies (a .w) (a .numbers .now) (a .values .now) (start .pre)) in
+    let between = lists (flushed .last .1 .1 .1 .0) (flushed .last .1 .1 .1 .1 .0) (flushed .last .1 .1 .1 .1 .1 .0) in
+    let after = lists (sent .last .1 .1 .0) (sent .last .1 .1 .1 .0) (sent .last .1 .1 .1 .1 .0) in (
+      finished (a .room) (markingOf (a .lo) (a .hi) (a .r)) (a .slots .now) (a .slot) queue (a .marks .now) (marked .last .1 .1 .1 .0) by-slot (head .result) (head .ensures)
+          (lists (a .fates .now) (a .whens .now) (a .bys .now)) between after (flushed .result) (sent .result) (flushed .last .0) (flushed .last .1 .0) (flushed .ensures .0) (sent .ensures .0),
+      end-left (a .room) (markingOf (a .lo) (a .hi) (a .r)) (a .slots .now) (a .slot) queue (a .marks .now) (marked .last .1 .1 .1 .0) by-slot (head .result) (head .ensures)
+          (lent (a .w) (a .numbers .now) (a .values .now)) (flushed .result) (sent .result) (flushed .last .0) (flushed .last .1 .0) (flushed .ensures .1)
+          between after (flushed .ensures .0 .queue) (sent .ensures .0) (sent .ensures .1),
+    )
 
 pub end-slot-spec : {M : Type 1} → statement M
 end-slot-spec =

@@ -1,15 +1,19 @@
 -- The invariant: the ends still to come complete what all of them do. They are over where no slot is left, or nothing is held.
-use Prim.Native.Nat.{_-_}
-use mathlib.Core.Path.{_≡_, refl, _∙_}
+use Prim.Native.Nat.{_+_, _-_}
+use mathlib.Core.Path.{_≡_, refl, sym, ap₂, _∙_}
+use native.Mathlib.Omega.{arith}
 use lib.ListN.{length}
 use borrow.Author.Tests.{ltb-true, ltb-false}
-use Rattle.model.specs.Policies.MF.{mfPolicy}
+use Rattle.model.specs.Policies.MF.{Marked, mfPolicy}
 use Rattle.trace.specs.Checked.{markingOf}
 use Rattle.entry.specs.Entry.{lists}
 use Rattle.steps.specs.Window.{windowOf}
 use Rattle.marks.specs.Mark.{beside}
+use Rattle.steps.specs.Lent.{Lent, lent}
 use Rattle.steps.proofs.Windows.{window}
+use Rattle.steps.proofs.Arriving.{window-length}
 use Rattle.flush.proofs.Ending.{ending-all}
+use Rattle.flush.proofs.Leaving.{ends, ends-past, ends-idle, ends-turn}
 use Rattle.flush.proofs.Finishing.{Left, left-turn, left-past, left-idle}
 use borrow.Author.Needs.{needs}
 use Rattle.flush.proofs.ends.end_slots.Statement.{statement}
@@ -25,6 +29,8 @@ Inv-loop numbers₀ values₀ slots marks₀ fates₀ whens₀ bys₀ room lo hi
     × (length bys ≡ length bys₀)
     × Left room (markingOf lo hi r) slots (until .0) slot₀ (beside (windowOf (window head₀ tail₀) numbers₀ values₀) marks₀) (lists fates₀ whens₀ bys₀)
     slot head tail numbers values marks (lists fates whens bys)
+    × (ends room (markingOf lo hi r) slots (until .0) slot (beside (windowOf (window head tail) numbers values) marks) (lent (window head tail) numbers values)
+    ≡ ends room (markingOf lo hi r) slots (until .0) slot₀ (beside (windowOf (window head₀ tail₀) numbers₀ values₀) marks₀) (lent (window head₀ tail₀) numbers₀ values₀))
 
 abbrev μ-loop : tie.MeasureT-loop
 μ-loop numbers₀ values₀ slots marks₀ fates₀ whens₀ bys₀ room lo hi r until head₀ tail₀ slot₀ numbers values marks fates whens bys head tail slot = until .0 - slot
@@ -32,7 +38,7 @@ abbrev μ-loop : tie.MeasureT-loop
 loop-holds : tie.Need-loop-holds Inv-loop μ-loop
 loop-holds c =
     let a = c .before .before .before .before .before .before .before .args in
-    (refl, refl, refl, refl, refl, refl, record { within = c .before .before .before .before .before .before .before .pre; ends = ending-all (mfPolicy (a .room) (markingOf (a .lo) (a .hi) (a .r)) (a .slots .now)) (a .until .0) (a .from .0) (beside (windowOf (a .w) (a .numbers .now) (a .values .now)) (a .marks .now)) (lists (a .fates .now) (a .whens .now) (a .bys .now)) })
+    (refl, refl, refl, refl, refl, refl, record { within = c .before .before .before .before .before .before .before .pre; ends = ending-all (mfPolicy (a .room) (markingOf (a .lo) (a .hi) (a .r)) (a .slots .now)) (a .until .0) (a .from .0) (beside (windowOf (a .w) (a .numbers .now) (a .values .now)) (a .marks .now)) (lists (a .fates .now) (a .whens .now) (a .bys .now)) }, refl)
 
 end-slot-requires : tie.Need-end-slot-requires Inv-loop μ-loop
 end-slot-requires c κs = search needs
@@ -47,7 +53,15 @@ loop-again : tie.Need-loop-again Inv-loop μ-loop
 loop-again c =
     let a = c .before .before .before .before .before .before .before .before .before .before .before .before .before .before .before .before .before .before .before .before .before .before .before .before .before .before .before .before .before .before .args in
     let loop = c .before .before .before .before .before .before .before .before .before .before .before .before .before .before .before .before .before .before .before .before .before .before .loop in
-    let end = c .before .before .before .before .before .before .before .before .before .before .before .before .end-slot in (
+    let end = c .before .before .before .before .before .before .before .before .before .before .before .before .end-slot in
+    let state = beside (windowOf (window (loop .head) (loop .tail)) (loop .numbers) (loop .values)) (loop .marks) in
+    let some = ltb-true (loop .head) (loop .tail) (c .before .before .before .before .before .before .before .before .before .before .before .before .before .before .before .before .before .before .before .if2 .taken) in
+    let held = window-length (window (loop .head) (loop .tail)) (loop .numbers) (loop .values) (loop .inv .6 .within) in
+    let went =
+    ap₂ (λ (s : Marked) (l : Lent). ends (a .room) (markingOf (a .lo) (a .hi) (a .r)) (a .slots .now) (a .until .0) (loop .slot + 1) s l) (end .ensures .0 .state) (end .ensures .1)
+    ∙ sym (ends-turn (a .room) (markingOf (a .lo) (a .hi) (a .r)) (a .slots .now) (a .until .0) (loop .slot) state (lent (window (loop .head) (loop .tail)) (loop .numbers) (loop .values)) (c .before .before .before .before .before .before .before .before .before .before .before .before .before .before .before .before .before .before .before .before .if1 .taken) (omega (arith, held, some)))
+    ∙ loop .inv .7
+    in (
       end .kept .0 ∙ loop .inv .0,
       end .kept .1 .0 ∙ loop .inv .1,
       end .kept .1 .1 .1 .0 ∙ loop .inv .2,
@@ -55,8 +69,9 @@ loop-again c =
       end .kept .1 .1 .1 .1 .1 .0 ∙ loop .inv .4,
       end .kept .1 .1 .1 .1 .1 .1 .0 ∙ loop .inv .5,
       left-turn (a .room) (markingOf (a .lo) (a .hi) (a .r)) (a .slots .now) (a .until .0) (a .from .0) (beside (windowOf (a .w) (a .numbers .now) (a .values .now)) (a .marks .now)) (lists (a .fates .now) (a .whens .now) (a .bys .now))
-          (loop .slot) (loop .head) (loop .tail) (loop .numbers) (loop .values) (loop .marks) (lists (loop .fates) (loop .whens) (loop .bys)) (loop .inv .6) (c .before .before .before .before .before .before .before .before .before .before .before .before .before .before .before .before .before .before .before .before .if1 .taken) (ltb-true (loop .head) (loop .tail) (c .before .before .before .before .before .before .before .before .before .before .before .before .before .before .before .before .before .before .before .if2 .taken))
-          (end .result) (end .last .0) (end .last .1 .0) (end .last .1 .1 .1 .0) (lists (end .last .1 .1 .1 .1 .0) (end .last .1 .1 .1 .1 .1 .0) (end .last .1 .1 .1 .1 .1 .1 .0)) (end .ensures),
+          (loop .slot) (loop .head) (loop .tail) (loop .numbers) (loop .values) (loop .marks) (lists (loop .fates) (loop .whens) (loop .bys)) (loop .inv .6) (c .before .before .before .before .before .before .before .before .before .before .before .before .before .before .before .before .before .before .before .before .if1 .taken) some
+          (end .result) (end .last .0) (end .last .1 .0) (end .last .1 .1 .1 .0) (lists (end .last .1 .1 .1 .1 .0) (end .last .1 .1 .1 .1 .1 .0) (end .last .1 .1 .1 .1 .1 .1 .0)) (end .ensures .0),
+      went,
     )
 
 same-length : tie.Need-same-length Inv-loop μ-loop
@@ -80,9 +95,12 @@ same-length-6 c = search needs
 returns : tie.Need-returns Inv-loop μ-loop
 returns c =
     let a = c .before .before .before .before .before .before .before .before .before .before .before .args in
-    let loop = c .before .before .before .loop in
-    left-idle (a .room) (markingOf (a .lo) (a .hi) (a .r)) (a .slots .now) (a .until .0) (a .from .0) (beside (windowOf (a .w) (a .numbers .now) (a .values .now)) (a .marks .now)) (lists (a .fates .now) (a .whens .now) (a .bys .now))
-    (loop .slot) (loop .head) (loop .tail) (loop .numbers) (loop .values) (loop .marks) (lists (loop .fates) (loop .whens) (loop .bys)) (loop .inv .6) (ltb-false (loop .head) (loop .tail) (c .if2 .left))
+    let loop = c .before .before .before .loop in (
+      left-idle (a .room) (markingOf (a .lo) (a .hi) (a .r)) (a .slots .now) (a .until .0) (a .from .0) (beside (windowOf (a .w) (a .numbers .now) (a .values .now)) (a .marks .now)) (lists (a .fates .now) (a .whens .now) (a .bys .now))
+          (loop .slot) (loop .head) (loop .tail) (loop .numbers) (loop .values) (loop .marks) (lists (loop .fates) (loop .whens) (loop .bys)) (loop .inv .6) (ltb-false (loop .head) (loop .tail) (c .if2 .left)),
+      sym (ends-idle (a .room) (markingOf (a .lo) (a .hi) (a .r)) (a .slots .now) (a .until .0) (loop .slot) (beside (windowOf (window (loop .head) (loop .tail)) (loop .numbers) (loop .values)) (loop .marks)) (lent (window (loop .head) (loop .tail)) (loop .numbers) (loop .values))
+          (omega (arith, window-length (window (loop .head) (loop .tail)) (loop .numbers) (loop .values) (loop .inv .6 .within), ltb-false (loop .head) (loop .tail) (c .if2 .left)))) ∙ loop .inv .7,
+    )
 
 same-length-7 : tie.Need-same-length-7 Inv-loop μ-loop
 same-length-7 c = search needs
@@ -105,9 +123,11 @@ same-length-12 c = search needs
 returns-2 : tie.Need-returns-2 Inv-loop μ-loop
 returns-2 c =
     let a = c .before .before .before .before .before .before .before .before .before .before .args in
-    let loop = c .before .before .loop in
-    left-past (a .room) (markingOf (a .lo) (a .hi) (a .r)) (a .slots .now) (a .until .0) (a .from .0) (beside (windowOf (a .w) (a .numbers .now) (a .values .now)) (a .marks .now)) (lists (a .fates .now) (a .whens .now) (a .bys .now))
-    (loop .slot) (loop .head) (loop .tail) (loop .numbers) (loop .values) (loop .marks) (lists (loop .fates) (loop .whens) (loop .bys)) (loop .inv .6) (c .if1 .left)
+    let loop = c .before .before .loop in (
+      left-past (a .room) (markingOf (a .lo) (a .hi) (a .r)) (a .slots .now) (a .until .0) (a .from .0) (beside (windowOf (a .w) (a .numbers .now) (a .values .now)) (a .marks .now)) (lists (a .fates .now) (a .whens .now) (a .bys .now))
+          (loop .slot) (loop .head) (loop .tail) (loop .numbers) (loop .values) (loop .marks) (lists (loop .fates) (loop .whens) (loop .bys)) (loop .inv .6) (c .if1 .left),
+      sym (ends-past (a .room) (markingOf (a .lo) (a .hi) (a .r)) (a .slots .now) (a .until .0) (loop .slot) (beside (windowOf (window (loop .head) (loop .tail)) (loop .numbers) (loop .values)) (loop .marks)) (lent (window (loop .head) (loop .tail)) (loop .numbers) (loop .values)) (c .if1 .left)) ∙ loop .inv .7,
+    )
 
 pub end-slots-spec : {M : Type 1} → statement M
 end-slots-spec =

@@ -1,5 +1,5 @@
 -- The oldest packet is what the window begins with; on idle the window is empty.
-use mathlib.Core.Path.{sym, _∙_}
+use mathlib.Core.Path.{refl, sym, _∙_}
 use mathlib.Core.Logic.{⊎-elim}
 use native.Mathlib.Omega.{arith}
 use Rattle.entry.specs.Entry.{lists}
@@ -19,9 +19,11 @@ returns : tie.Need-returns
 returns c =
     let a = c .before .before .before .before .before .before .before .args in
     let k = c .match .keys2 in
-    let told = c .before .oldest .ensures .passed (within-lies (a .w) (a .numbers .now) (a .values .now) (c .before .before .before .before .before .before .before .pre)) .is in
-    sent-none (a .slot) (a .w .head) (a .w .tail) (a .numbers .now) (a .values .now) (c .before .before .before .before .before .before .before .pre) (lists (a .fates .now) (a .whens .now) (a .bys .now))
-    (λ p e. ⊎-elim (λ t. omega arith) (λ t. omega arith) (rw (told ∙ e) at k))
+    let told = c .before .oldest .ensures .passed (within-lies (a .w) (a .numbers .now) (a .values .now) (c .before .before .before .before .before .before .before .pre)) .is in (
+      sent-none (a .slot) (a .w .head) (a .w .tail) (a .numbers .now) (a .values .now) (c .before .before .before .before .before .before .before .pre) (lists (a .fates .now) (a .whens .now) (a .bys .now))
+          (λ p e. ⊎-elim (λ t. omega arith) (λ t. omega arith) (rw (told ∙ e) at k)),
+      refl,
+    )
 
 enter-requires : tie.Need-enter-requires
 enter-requires c κs = search needs
@@ -40,9 +42,11 @@ same-length-3 c = search needs
 
 returns-2 : tie.Need-returns-2
 returns-2 c =
-    let a = c .before .before .before .before .before .before .before .before .before .before .before .before .before .before .before .before .before .before .before .args in
-    sent-oldest (a .slot) (a .w .head) (a .w .tail) (a .numbers .now) (a .values .now) (c .before .before .before .before .before .before .before .before .before .before .before .before .before .before .before .before .before .before .before .pre) (lists (a .fates .now) (a .whens .now) (a .bys .now))
-    (c .before .before .before .before .before .before .before .before .before .before .before .p .given .0 .0) (sym (c .before .before .before .before .before .before .before .before .before .before .before .before .before .oldest .ensures .passed (within-lies (a .w) (a .numbers .now) (a .values .now) (c .before .before .before .before .before .before .before .before .before .before .before .before .before .before .before .before .before .before .before .pre)) .is) ∙ c .before .before .before .before .before .before .before .before .before .before .before .p .given .1) _ (c .before .before .before .before .before .before .enter .ensures) .1
+    let a = c .before .before .before .before .before .before .before .before .before .before .before .before .before .before .before .before .before .before .before .args in (
+      sent-oldest (a .slot) (a .w .head) (a .w .tail) (a .numbers .now) (a .values .now) (c .before .before .before .before .before .before .before .before .before .before .before .before .before .before .before .before .before .before .before .pre) (lists (a .fates .now) (a .whens .now) (a .bys .now))
+          (c .before .before .before .before .before .before .before .before .before .before .before .p .given .0 .0) (sym (c .before .before .before .before .before .before .before .before .before .before .before .before .before .oldest .ensures .passed (within-lies (a .w) (a .numbers .now) (a .values .now) (c .before .before .before .before .before .before .before .before .before .before .before .before .before .before .before .before .before .before .before .pre)) .is) ∙ c .before .before .before .before .before .before .before .before .before .before .before .p .given .1) _ (c .before .before .before .before .before .before .enter .ensures) .1,
+      refl,
+    )
 
 pub send-spec : {M : Type 1} → statement M
 send-spec =

@@ -6,7 +6,7 @@ use native.Mathlib.Omega.{arith}
 use lib.ListN.{length}
 use Rattle.trace.specs.Checked.{markingOf}
 use Rattle.entry.specs.Entry.{lists}
-use Rattle.steps.proofs.Guarding.{within-lies}
+use Rattle.flush.proofs.Leaving.{ends-finish}
 use Rattle.mf.proofs.RunningMF.{Going, going-start, going-turn, going-end}
 use borrow.Author.Needs.{needs}
 use Rattle.mf.proofs.mf.run_mf.Statement.{statement}
@@ -121,7 +121,8 @@ returns c =
     let ended = c .before .before .before .before .before .before .before .before .before .before .end-slots in
     going-end (a .room) (markingOf (a .lo) (a .hi) (a .r)) (a .slots .now) (a .values .now) (lists (a .fates .now) (a .whens .now) (a .bys .now)) (start .pre .0) (loop .numbers) (loop .held) (loop .marks) (loop .w .head) (loop .w .tail) (loop .last .0) (loop .most) (loop .i) (lists (loop .fates) (loop .whens) (loop .bys)) (loop .inv .4) (c .before .before .before .before .before .before .before .before .before .before .before .before .before .before .before .before .before .before .before .loop-test .left)
     (ended .result) (ended .last .0) (ended .last .1 .0) (ended .last .1 .1 .1 .0) (lists (ended .last .1 .1 .1 .1 .0) (ended .last .1 .1 .1 .1 .1 .0) (ended .last .1 .1 .1 .1 .1 .1 .0)) (record { 0 = loop .last .0 + (loop .w .tail - loop .w .head) }) refl
-    (ended .ensures .passed (within-lies (loop .w) (loop .numbers) (loop .held) (loop .inv .4 .within)))
+    (ends-finish (a .room) (markingOf (a .lo) (a .hi) (a .r)) (a .slots .now) (loop .last) (record { 0 = loop .last .0 + (loop .w .tail - loop .w .head) }) (loop .w) (loop .numbers) (loop .held) (loop .marks) (lists (loop .fates) (loop .whens) (loop .bys)) (loop .inv .4 .within)
+    (ended .result) (ended .last .0) (ended .last .1 .0) (ended .last .1 .1 .1 .0) (lists (ended .last .1 .1 .1 .1 .0) (ended .last .1 .1 .1 .1 .1 .0) (ended .last .1 .1 .1 .1 .1 .1 .0)) (ended .ensures))
 
 pub run-mf-spec : {M : Type 1} → statement M
 run-mf-spec =

@@ -3,8 +3,11 @@ use Rattle.trace.specs.Checked.{markingOf}
 use Rattle.entry.specs.Entry.{lists}
 use Rattle.steps.specs.Window.{windowOf}
 use Rattle.steps.specs.Step.{arrival}
+use Rattle.flush.proofs.Leaving.{ends-finish}
 use Rattle.mf.proofs.RunningMF.{ended-free, turned}
-use Rattle.steps.proofs.Guarding.{within-lies, free-place}
+use Rattle.queue.specs.declared.Rule.the-variants.{Greedy}
+use Rattle.steps.proofs.Guarding.{free-place}
+use Rattle.steps.proofs.Lending.{arrived-steps}
 use borrow.Author.Needs.{needs}
 use Rattle.mf.proofs.mf.take.Statement.{statement}
 use Rattle.mf.proofs.mf.take.Tie as tie
@@ -38,7 +41,8 @@ returns c =
     let start = c .before .before .before .before .before .before .before .before .before .before .before .before .before .before .before .before .before .before .before .before .before .before .before .before .before .before .before .before .before .before .before .before .before .before .before .before .before .before .before .before .before .before in
     let a = start .args in
     let ended = c .before .before .before .before .before .before .before .before .before .before .before .before .before .before .before .before .before .before .before .before .before .before .before .before .before .before .before .before .end-slots in
-    let done = ended .ensures .passed (within-lies (a .w) (a .numbers .now) (a .values .now) (start .pre .0)) in
+    let done = ends-finish (a .room) (markingOf (a .lo) (a .hi) (a .r)) (a .slots .now) (a .before) (a .slot) (a .w) (a .numbers .now) (a .values .now) (a .marks .now) (lists (a .fates .now) (a .whens .now) (a .bys .now)) (start .pre .0)
+    (ended .result) (ended .last .0) (ended .last .1 .0) (ended .last .1 .1 .1 .0) (lists (ended .last .1 .1 .1 .1 .0) (ended .last .1 .1 .1 .1 .1 .0) (ended .last .1 .1 .1 .1 .1 .1 .0)) (ended .ensures) in
     let arrived = c .before .before .before .before .before .before .before .before .before .before .arrive in
     let free =
     ended-free (a .room) (markingOf (a .lo) (a .hi) (a .r)) (a .slots .now) (a .before) (arrival (a .slot) (a .p)) (windowOf (a .w) (a .numbers .now) (a .values .now)) (a .marks .now) (lists (a .fates .now) (a .whens .now) (a .bys .now))
@@ -46,7 +50,8 @@ returns c =
     (start .pre .0) (start .pre .1) done (ended .kept .1 .0) in
     turned (a .room) (markingOf (a .lo) (a .hi) (a .r)) (a .slots .now) (a .before) (arrival (a .slot) (a .p)) (windowOf (a .w) (a .numbers .now) (a .values .now)) (a .marks .now) (lists (a .fates .now) (a .whens .now) (a .bys .now))
     (lists (ended .last .1 .1 .1 .1 .0) (ended .last .1 .1 .1 .1 .1 .0) (ended .last .1 .1 .1 .1 .1 .1 .0)) (lists (arrived .last .1 .1 .0) (arrived .last .1 .1 .1 .0) (arrived .last .1 .1 .1 .1 .0))
-    (ended .result) (arrived .result) (ended .last .0) (ended .last .1 .0) (arrived .last .0) (arrived .last .1 .0) (ended .last .1 .1 .1 .0) done (arrived .ensures .passed (free-place (ended .result) (ended .last .0) (ended .last .1 .0) (done .within) free))
+    (ended .result) (arrived .result) (ended .last .0) (ended .last .1 .0) (arrived .last .0) (arrived .last .1 .0) (ended .last .1 .1 .1 .0) done
+    (arrived-steps (ended .result) (ended .last .0) (ended .last .1 .0) (free-place (ended .result) (ended .last .0) (ended .last .1 .0) (done .within) free) (a .room) Greedy (arrival (a .slot) (a .p)) (lists (ended .last .1 .1 .1 .1 .0) (ended .last .1 .1 .1 .1 .1 .0) (ended .last .1 .1 .1 .1 .1 .1 .0)) (lists (arrived .last .1 .1 .0) (arrived .last .1 .1 .1 .0) (arrived .last .1 .1 .1 .1 .0)) (arrived .result) (arrived .last .0) (arrived .last .1 .0) (arrived .ensures))
 
 pub take-spec : {M : Type 1} → statement M
 take-spec =

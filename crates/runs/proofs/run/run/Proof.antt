@@ -1,12 +1,12 @@
 -- The loop of every run, under the rule of greedy or PG.
-use Prim.Native.Nat.{max, _-_}
+use Prim.Native.Nat.{max, _+_, _-_}
 use mathlib.Core.Path.{_≡_, refl, _∙_}
 use mathlib.Core.Logic.{⊎-elim}
 use native.Mathlib.Omega.{arith}
 use lib.ListN.{length}
 use Rattle.queue.specs.Choose.{ruleOf}
 use Rattle.entry.specs.Entry.{lists}
-use Rattle.steps.proofs.Guarding.{within-lies}
+use Rattle.steps.proofs.Lending.{sent-steps}
 use Rattle.steps.proofs.Running.{Going, going-start, going-turn, going-end}
 use borrow.Author.Needs.{needs}
 use Rattle.runs.proofs.run.run.Statement.{statement}
@@ -116,7 +116,7 @@ returns c =
     let sent = c .before .before .before .before .before .before .send-until in
     going-end (ruleOf (a .room) (a .rule)) (a .slots .now) (a .values .now) (lists (a .fates .now) (a .whens .now) (a .bys .now)) (start .pre .0) (loop .numbers) (loop .held) (loop .w .head) (loop .w .tail) (loop .last .0) (loop .most) (loop .i) (lists (loop .fates) (loop .whens) (loop .bys))
     (loop .inv .3) (c .before .before .before .before .before .before .before .before .before .before .before .before .before .before .loop-test .left) (sent .result) (lists (sent .last .1 .1 .0) (sent .last .1 .1 .1 .0) (sent .last .1 .1 .1 .1 .0)) _ refl
-    (sent .ensures .passed (within-lies (loop .w) (loop .numbers) (loop .held) (loop .inv .3 .within)))
+    (sent-steps (loop .w) (loop .numbers) (loop .held) (loop .inv .3 .within) (loop .last) (record { 0 = loop .last .0 + (loop .w .tail - loop .w .head) }) (lists (loop .fates) (loop .whens) (loop .bys)) (lists (sent .last .1 .1 .0) (sent .last .1 .1 .1 .0) (sent .last .1 .1 .1 .1 .0)) (sent .result) (sent .ensures))
 
 pub run-spec : {M : Type 1} → statement M
 run-spec =

@@ -1,11 +1,14 @@
 use native.Mathlib.Omega.{arith}
-use Rattle.steps.proofs.Windows.{opened}
+use Rattle.steps.proofs.Placing.{open-here, open-start}
 use borrow.Author.Needs.{needs}
 use Rattle.steps.proofs.held.freed.Statement.{statement}
 use Rattle.steps.proofs.held.freed.Tie as tie
 
 returns : tie.Need-returns
-returns c = search needs
+returns c =
+    let start = c .before .before .before in
+    let a = start .args in
+    (open-here (a .w) (a .numbers .now) (a .values .now) (start .pre .0) (omega arith), omega arith)
 
 slide-requires : tie.Need-slide-requires
 slide-requires c κs = search needs
@@ -25,9 +28,11 @@ same-length-2 c = search needs
 returns-2 : tie.Need-returns-2
 returns-2 c =
     let start = c .before .before .before .before .before .before .before .before .before .before .before in
-    let a = start .args in
-    rw (c .before .before .before .before .before .before .slide .ensures, c .before .before .slide2 .ensures)
-    (opened (a .w) (a .numbers .now) (a .values .now) (start .pre .0) (start .pre .1) (omega arith))
+    let a = start .args in (
+      rw (c .before .before .before .before .before .before .slide .ensures, c .before .before .slide2 .ensures)
+          (open-start (a .w) (a .numbers .now) (a .values .now) (start .pre .0) (omega arith)),
+      search needs,
+    )
 
 pub freed-spec : {M : Type 1} → statement M
 freed-spec =

@@ -1,4 +1,6 @@
-use Rattle.steps.proofs.Windows.{stored}
+use Rattle.steps.specs.Window.{windowOf}
+use Rattle.steps.specs.Lent.{lent, openPlace}
+use Rattle.steps.proofs.Placing.{placed-behind}
 use borrow.Author.Needs.{needs}
 use Rattle.steps.proofs.held.hold.Statement.{statement}
 use Rattle.steps.proofs.held.hold.Tie as tie
@@ -31,8 +33,8 @@ returns : tie.Need-returns
 returns c =
     let freed = c .before .before .before .before .freed in
     let a = c .before .before .before .before .before .before .before .before .before .args in
-    let done = stored (freed .result) (freed .last .0) (freed .last .1 .0) (a .p) (freed .ensures .within) (freed .ensures .free) in
-    rw (freed .ensures .queue) at done
+    placed-behind (openPlace (lent (a .w) (a .numbers .now) (a .values .now))) (windowOf (a .w) (a .numbers .now) (a .values .now)) (lent (a .w) (a .numbers .now) (a .values .now))
+    (a .p) (lent (freed .result) (freed .last .0) (freed .last .1 .0)) (freed .ensures .0)
 
 pub hold-spec : {M : Type 1} → statement M
 hold-spec =

@@ -1,4 +1,4 @@
-use Rattle.steps.proofs.Windows.{taken-out}
+use Rattle.steps.proofs.Placing.{placed-without}
 use borrow.Author.Needs.{needs}
 use Rattle.steps.proofs.held.lose.Statement.{statement}
 use Rattle.steps.proofs.held.lose.Tie as tie
@@ -32,7 +32,7 @@ returns c =
     let start = c .before .before .before .before .before .before .before .before .before .before .before in
     let a = start .args in
     rw (c .before .before .before .before .before .before .slide .ensures, c .before .before .slide2 .ensures)
-    (taken-out (a .w) (a .numbers .now) (a .values .now) (a .place) (start .pre .0) (start .pre .1))
+    (placed-without (a .w) (a .numbers .now) (a .values .now) (start .pre .0) (a .place) (start .pre .1))
 
 pub lose-spec : {M : Type 1} → statement M
 lose-spec =

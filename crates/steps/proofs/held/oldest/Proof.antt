@@ -1,4 +1,5 @@
 use mathlib.Core.Path.{refl}
+use native.Mathlib.Omega.{arith}
 use Rattle.steps.proofs.Windows.{window-cons, window-none}
 use borrow.Author.Needs.{needs}
 use Rattle.steps.proofs.held.oldest.Statement.{statement}
@@ -20,12 +21,12 @@ returns : tie.Need-returns
 returns c =
     let start = c .before .before .before in
     let a = start .args in
-    rw (window-cons (a .head) (a .tail) (a .numbers .now) (a .values .now) (start .pre) (c .before .before .if1 .taken)) refl
+    rw (window-cons (a .head) (a .tail) (a .numbers .now) (a .values .now) (start .pre) (omega arith)) refl
 
 returns-2 : tie.Need-returns-2
 returns-2 c =
     let a = c .before .args in
-    rw (window-none (a .head) (a .tail) (a .numbers .now) (a .values .now) (c .before .pre) (c .if1 .left)) refl
+    rw (window-none (a .head) (a .tail) (a .numbers .now) (a .values .now) (c .before .pre) (omega arith)) refl
 
 pub oldest-spec : {M : Type 1} → statement M
 oldest-spec =

@@ -1,7 +1,12 @@
--- The test of the window decides which promise is kept.
-use mathlib.Core.Path.{refl, sym, _∙_}
+-- The test of the window decides what is left.
+use mathlib.Core.Path.{sym, _∙_}
 use borrow.Author.Tests.{not-true, not-false}
-use Rattle.steps.proofs.Guarding.{by-pass, by-fail, place-within, place-free}
+use Rattle.steps.proofs.Guarding.{place-within, place-free}
+use Rattle.queue.specs.Choose.{ruleOf}
+use Rattle.entry.specs.Entry.{lists}
+use Rattle.steps.specs.Step.{arrival}
+use Rattle.steps.specs.Lent.{lent, moved}
+use Rattle.steps.proofs.Keeping.{arrival-kept, none-arrives}
 use borrow.Author.Needs.{needs}
 use Rattle.steps.proofs.moves.arrive.Statement.{statement}
 use Rattle.steps.proofs.moves.arrive.Tie as tie
@@ -16,7 +21,9 @@ same-length-2 : tie.Need-same-length-2
 same-length-2 c = search needs
 
 returns : tie.Need-returns
-returns c = by-fail (sym (c .before .has-place .ensures) ∙ not-true _ (c .if1 .taken)) (record { same-window = refl; same-numbers = refl; same-values = refl }, refl)
+returns c =
+    let a = c .before .before .before .before .before .before .before .before .before .args in
+    none-arrives (a .w) (a .numbers .now) (a .values .now) (ruleOf (a .room) (a .rule)) (arrival (a .slot) (a .p)) (lists (a .fates .now) (a .whens .now) (a .bys .now)) (sym (c .before .has-place .ensures) ∙ not-true _ (c .if1 .taken))
 
 arrive-requires : tie.Need-arrive-requires
 arrive-requires c κs = let a = c .before .before .before .before .before .before .before .before .before .before .before .before .before .before .args in let place = sym (c .before .before .before .before .before .before .has-place .ensures) ∙ not-false _ (c .before .before .before .before .before .if1 .left) in (place-within (a .w) (a .numbers .now) (a .values .now) place, place-free (a .w) (a .numbers .now) (a .values .now) place)
@@ -37,7 +44,12 @@ same-length-7 : tie.Need-same-length-7
 same-length-7 c = search needs
 
 returns-2 : tie.Need-returns-2
-returns-2 c = by-pass (sym (c .before .before .before .before .before .before .before .before .before .before .before .before .before .before .before .before .before .has-place .ensures) ∙ not-false _ (c .before .before .before .before .before .before .before .before .before .before .before .before .before .before .before .before .if1 .left)) (c .before .before .before .before .before .before .before .before .before .before .arrive .ensures)
+returns-2 c =
+    let a = c .before .before .before .before .before .before .before .before .before .before .before .before .before .before .before .before .before .before .before .before .before .before .before .before .before .args in
+    let done = c .before .before .before .before .before .before .before .before .before .before .arrive in
+    arrival-kept (a .w) (a .numbers .now) (a .values .now) (ruleOf (a .room) (a .rule)) (arrival (a .slot) (a .p)) (lists (a .fates .now) (a .whens .now) (a .bys .now))
+    (moved (lent (done .result) (done .last .0) (done .last .1 .0)) (lists (done .last .1 .1 .0) (done .last .1 .1 .1 .0) (done .last .1 .1 .1 .1 .0)))
+    (sym (c .before .before .before .before .before .before .before .before .before .before .before .before .before .before .before .before .before .has-place .ensures) ∙ not-false _ (c .before .before .before .before .before .before .before .before .before .before .before .before .before .before .before .before .if1 .left)) (done .ensures)
 
 pub arrive-spec : {M : Type 1} → statement M
 arrive-spec = tie.close (tie.spec has-place-requires same-length same-length-2 returns arrive-requires same-length-3 same-length-4 same-length-5 same-length-6 same-length-7 returns-2)

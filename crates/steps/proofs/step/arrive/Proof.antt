@@ -2,7 +2,10 @@ use native.Mathlib.Omega.{arith}
 use mathlib.Core.Path.{sym, _∙_}
 use Rattle.queue.specs.declared.Choice.the-variants.{Hold, Reject}
 use Rattle.steps.proofs.Windows.{part-length}
-use Rattle.steps.proofs.Arriving.{held as hold-steps, rejected as reject-steps, by-rule, lost-inside}
+use Rattle.entry.specs.Entry.{lists}
+use Rattle.steps.specs.Lent.{lent, moved}
+use Rattle.steps.proofs.Arriving.{lost-inside}
+use Rattle.steps.proofs.Deciding.{held-in, rejected-in, by-rule}
 use borrow.Author.Needs.{needs}
 use Rattle.queue.proofs.Told.{told}
 use Rattle.steps.proofs.step.arrive.Statement.{statement}
@@ -58,9 +61,11 @@ returns c =
     let start = c .before .before .before .before .before .before .before .before .before .before .before .before .before .before .before .before .before in
     let a = start .args in
     let held = c .before .before .before .before .hold in
-    by-rule (a .w) (a .numbers .now) (a .values .now) (start .pre .0) (a .slot) (a .p) _ (a .room) (a .rule) Hold
-    (sym (told _ _ (c .before .before .before .before .before .before .before .before .before .decide .ensures)) ∙ c .before .before .before .before .before .before .before .enum-told .given .1) (held .result) (held .last .0) (held .last .1 .0) _
-    (hold-steps (a .w) (a .numbers .now) (a .values .now) (start .pre .0) (a .slot) (a .p) _ (held .result) (held .last .0) (held .last .1 .0) (held .ensures))
+    let done = lent (held .result) (held .last .0) (held .last .1 .0) in
+    let now = (lists (a .fates .now) (a .whens .now) (a .bys .now)) in
+    by-rule (a .w) (a .numbers .now) (a .values .now) (start .pre .0) (a .slot) (a .p) now (a .room) (a .rule) Hold
+    (sym (told _ _ (c .before .before .before .before .before .before .before .before .before .decide .ensures)) ∙ c .before .before .before .before .before .before .before .enum-told .given .1) (moved done now)
+    (held-in (a .w) (a .numbers .now) (a .values .now) (start .pre .0) (a .slot) (a .p) now done (held .ensures))
 
 same-length-3 : tie.Need-same-length-3
 same-length-3 c = search needs
@@ -78,9 +83,12 @@ returns-2 : tie.Need-returns-2
 returns-2 c =
     let start = c .before .before .before .before .before .before .before .before .before .before .before .before .before .before .before .before .before .before .before .before in
     let a = start .args in
-    by-rule (a .w) (a .numbers .now) (a .values .now) (start .pre .0) (a .slot) (a .p) _ (a .room) (a .rule) Reject
-    (sym (told _ _ (c .before .before .before .before .before .before .before .before .before .before .before .before .decide .ensures)) ∙ c .before .before .before .before .before .before .before .before .before .before .enum-told2 .given .1) (a .w) (a .numbers .now) (a .values .now) _
-    (reject-steps (a .w) (a .numbers .now) (a .values .now) (start .pre .0) (a .slot) (a .p) _ _ (c .before .before .before .before .before .before .enter .ensures))
+    let entered = c .before .before .before .before .before .before .enter in
+    let now = (lists (a .fates .now) (a .whens .now) (a .bys .now)) in
+    let after = lists (entered .last .0) (entered .last .1 .0) (entered .last .1 .1 .0) in
+    by-rule (a .w) (a .numbers .now) (a .values .now) (start .pre .0) (a .slot) (a .p) now (a .room) (a .rule) Reject
+    (sym (told _ _ (c .before .before .before .before .before .before .before .before .before .before .before .before .decide .ensures)) ∙ c .before .before .before .before .before .before .before .before .before .before .enum-told2 .given .1) (moved (lent (a .w) (a .numbers .now) (a .values .now)) after)
+    (rejected-in (a .w) (a .numbers .now) (a .values .now) (start .pre .0) (a .slot) (a .p) now after (entered .ensures))
 
 same-length-7 : tie.Need-same-length-7
 same-length-7 c = search needs
@@ -102,8 +110,10 @@ returns-3 c =
     let start = c .before .before .before .before .before .before .before .before .before .before .before .before .before .before .before .before .before .before .before .before .before .before .before .before .before .before .before in
     let a = start .args in
     let replaced = c .before .before .before .before .before .before .before .before .before .before .replace in
-    by-rule (a .w) (a .numbers .now) (a .values .now) (start .pre .0) (a .slot) (a .p) _ (a .room) (a .rule) _
-    (sym (told _ _ (c .before .before .before .before .before .before .before .before .before .before .before .before .before .before .before .before .before .before .before .decide .ensures)) ∙ c .before .before .before .before .before .before .before .before .before .before .before .before .before .before .before .before .before .place .given .1) (replaced .result) (replaced .last .0) (replaced .last .1 .0) _ (replaced .ensures)
+    by-rule (a .w) (a .numbers .now) (a .values .now) (start .pre .0) (a .slot) (a .p) (lists (a .fates .now) (a .whens .now) (a .bys .now)) (a .room) (a .rule) _
+    (sym (told _ _ (c .before .before .before .before .before .before .before .before .before .before .before .before .before .before .before .before .before .before .before .decide .ensures)) ∙ c .before .before .before .before .before .before .before .before .before .before .before .before .before .before .before .before .before .place .given .1)
+    (moved (lent (replaced .result) (replaced .last .0) (replaced .last .1 .0)) (lists (replaced .last .1 .1 .0) (replaced .last .1 .1 .1 .0) (replaced .last .1 .1 .1 .1 .0)))
+    (replaced .ensures)
 
 pub arrive-spec : {M : Type 1} → statement M
 arrive-spec =

@@ -1,4 +1,5 @@
-use Rattle.steps.proofs.Arriving.{lost-free, replaced}
+use Rattle.steps.specs.Lent.{lent}
+use Rattle.steps.proofs.Deciding.{lost-holds, lost-free, replaced-in}
 use borrow.Author.Needs.{needs}
 use Rattle.steps.proofs.step.replace.Statement.{statement}
 use Rattle.steps.proofs.step.replace.Tie as tie
@@ -25,9 +26,10 @@ hold-requires : tie.Need-hold-requires
 hold-requires c κs =
     let start = c .before .before .before .before .before .before .before .before .before .before .before .before .before .before .before .before .before .before .before .before .before .before .before .before .before .before .before in
     let a = start .args in
-    let lost = c .before .before .before .before .before .before .lose in (
-      lost .ensures .within,
-      lost-free (a .w) (a .numbers .now) (a .values .now) (a .place) (start .pre .0) (start .pre .1) (lost .result) (lost .last .0) (lost .last .1 .0) (lost .ensures) (lost .kept .1 .0),
+    let lost = c .before .before .before .before .before .before .lose in
+    let rest = lent (lost .result) (lost .last .0) (lost .last .1 .0) in (
+      lost-holds (a .w) (a .numbers .now) (a .values .now) (start .pre .0) (a .place) (start .pre .1) rest (lost .ensures) .within,
+      lost-free (a .w) (a .numbers .now) (a .values .now) (start .pre .0) (a .place) (start .pre .1) rest (lost .ensures),
     )
 
 same-length : tie.Need-same-length
@@ -53,10 +55,10 @@ returns c =
     let lost = c .before .before .before .before .before .before .before .before .before .before .before .lose in
     let entered = c .before .before .before .before .before .before .before .before .before .before .before .before .before .before .before .before .before .before .before .before .enter in
     let fate = c .before .before .before .before .before .before .before .before .before .before .before .before .before .before .before .before .before .before .before .before .before .fate in
-    replaced (a .w) (a .numbers .now) (a .values .now) (start .pre .0) (a .slot) (a .p) _ (a .place) (a .kind) (start .pre .1)
+    replaced-in (a .w) (a .numbers .now) (a .values .now) (start .pre .0) (a .slot) (a .p) _ (a .place) (a .kind) (start .pre .1)
     (fate .result) (fate .ensures) _ (entered .ensures)
-    (lost .result) (lost .last .0) (lost .last .1 .0) (lost .ensures)
-    (held .result) (held .last .0) (held .last .1 .0) (held .ensures)
+    (lent (lost .result) (lost .last .0) (lost .last .1 .0)) (lost .ensures)
+    (lent (held .result) (held .last .0) (held .last .1 .0)) (held .ensures)
 
 pub replace-spec : {M : Type 1} → statement M
 replace-spec =

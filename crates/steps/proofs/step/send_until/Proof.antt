@@ -1,5 +1,5 @@
 use Prim.Native.Nat.{_-_}
-use mathlib.Core.Path.{_≡_, sym, _∙_}
+use mathlib.Core.Path.{_≡_, refl, sym, _∙_}
 use mathlib.Core.Logic.{⊎-elim}
 use native.Mathlib.Omega.{arith}
 use borrow.Author.Needs.{needs}
@@ -41,9 +41,11 @@ returns : tie.Need-returns Inv-loop μ-loop
 returns c =
     let loop = c .before .before .before .before in
     let a = loop .before .before .before .before .before .before .args in
-    let k = c .match .keys2 in
-    left-idle (a .numbers .now) (a .values .now) (a .w .tail) (a .until .0) (a .w .head) (a .from .0) _ (loop .loop .head) (loop .loop .slot) _ (loop .loop .inv .3)
-    (λ p e. ⊎-elim (λ t. omega arith) (λ t. omega arith) (rw (c .before .oldest .ensures ∙ e) at k))
+    let k = c .match .keys2 in (
+      refl,
+      left-idle (a .numbers .now) (a .values .now) (a .w .tail) (a .until .0) (a .w .head) (a .from .0) _ (loop .loop .head) (loop .loop .slot) _ (loop .loop .inv .3)
+          (λ p e. ⊎-elim (λ t. omega arith) (λ t. omega arith) (rw (c .before .oldest .ensures ∙ e) at k)),
+    )
 
 enter-requires : tie.Need-enter-requires Inv-loop μ-loop
 enter-requires c κs = search needs
@@ -82,7 +84,7 @@ returns-2 : tie.Need-returns-2 Inv-loop μ-loop
 returns-2 c =
     let loop = c .before .before in
     let a = loop .before .before .before .before .before .before .args in
-    left-none (a .numbers .now) (a .values .now) (a .w .tail) (a .until .0) (a .w .head) (a .from .0) _ (loop .loop .head) (loop .loop .slot) _ (loop .loop .inv .3) (omega arith)
+    (refl, left-none (a .numbers .now) (a .values .now) (a .w .tail) (a .until .0) (a .w .head) (a .from .0) _ (loop .loop .head) (loop .loop .slot) _ (loop .loop .inv .3) (omega arith))
 
 pub send-until-spec : {M : Type 1} → statement M
 send-until-spec =

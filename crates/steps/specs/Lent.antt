@@ -1,0 +1,79 @@
+-- A window of two lent lists, to the last entry, and what each move leaves of it and of the record's lists.
+use Prim.Native.Nat.{ℕ, _+_, _-_}
+use mathlib.Core.Bool.{cond}
+use mathlib.Core.List.{List, [], _∷_, _++_, map}
+use lib.ListN.{length}
+use lib.Seq.{sets}
+use lib.Dec.{ltb}
+use Rattle.model.specs.declared.Packet.{Packet}
+use Rattle.model.specs.declared.Slot.{Slot}
+use Rattle.model.specs.Packets.{Arrival, valuesOf}
+use Rattle.model.specs.Record.{Lists, entered}
+use Rattle.model.specs.Course.{Decision, held, rejected, losing, Decided, entriesOf}
+use Rattle.steps.specs.declared.Window.{Window}
+use Rattle.steps.specs.Window.{windowOf}
+use Rattle.steps.specs.Guarded.{liesWithin, hasPlace}
+use Rattle.steps.specs.Step.{sending}
+
+-- a window and its two lists
+pub record Lent : Type 0 where
+  pub window : Window
+  pub numbers : List ℕ
+  pub values : List ℕ
+
+abbrev pub lent : Window → List ℕ → List ℕ → Lent
+lent w numbers values = record { window = w; numbers = numbers; values = values }
+
+-- the packets of the window, oldest first
+abbrev pub queueIn : Lent → List Packet
+queueIn l = windowOf (l .window) (l .numbers) (l .values)
+
+-- the numbers of a queue
+abbrev pub numbersOf : List Packet → List ℕ
+numbersOf queue = map (λ (p : Packet). p .number .0) queue
+
+-- a queue written from a place on, which is the window then; all other entries are as before
+unfoldable pub placed : ℕ → List Packet → Lent → Lent
+placed place queue l =
+    lent (record { head = place; tail = place + length queue }) (sets (l .numbers) place (numbersOf queue)) (sets (l .values) place (valuesOf queue))
+
+-- where a queue stands that gets one packet more: where it is; from the start of its lists, once it has come to their end
+abbrev pub openPlace : Lent → ℕ
+openPlace l = cond (ltb (l .window .tail) (length (l .values))) (l .window .head) 0
+
+-- a packet is held behind the others; where no place is free all is as before
+unfoldable pub holding : Packet → Lent → Lent
+holding p l = cond (hasPlace (l .window) (l .numbers) (l .values)) (placed (openPlace l) (queueIn l ++ p ∷ []) l) l
+
+-- the window with its lists, beside the record's lists
+pub record Moved : Type 0 where
+  pub lent : Lent
+  pub written : Lists
+
+abbrev pub moved : Lent → Lists → Moved
+moved l lists = record { lent = l; written = lists }
+
+-- where the queue stands after a decision: the arrival needs a place behind the others only where it is held and none is lost
+abbrev pub decidedPlace : Decision → Lent → ℕ
+decidedPlace held l = openPlace l
+decidedPlace rejected l = l .window .head
+decidedPlace (losing loss) l = l .window .head
+
+-- what a decision on an arrival leaves: the queue after it, and its entry written
+abbrev pub deciding : Arrival → Decided → Lent → Lists → Moved
+deciding a d l lists = moved (placed (decidedPlace (d .decision) l) (d .queue) l) (entered (entriesOf a (d .decision)) lists)
+
+-- an arrival under a rule; where no place is free all is as before
+unfoldable pub arrivingIn : (List Packet → Packet → Decided) → Arrival → Lent → Lists → Moved
+arrivingIn rule a l lists =
+    cond (hasPlace (l .window) (l .numbers) (l .values)) (deciding a (rule (queueIn l) (a .packet)) l lists) (moved l lists)
+
+-- the queue that sendings leave: the window's end stays, and its start has moved on
+abbrev pub leaving : List Packet → Lent → Lent
+leaving queue l = lent (record { head = l .window .tail - length queue; tail = l .window .tail }) (l .numbers) (l .values)
+
+-- the ends of the slots before the next arrival; where the window does not lie within its lists all is as before
+unfoldable pub sendingIn : Slot → Slot → Lent → Lists → Moved
+sendingIn now until l lists =
+    let step = sending now until (queueIn l) in
+    cond (liesWithin (l .window) (l .numbers) (l .values)) (moved (leaving (step .next) l) (entered (step .entries) lists)) (moved l lists)
