@@ -2,41 +2,48 @@
 use crate::case::Case;
 use crate::lists::get;
 use crate::lists::less;
+use crate::lists::more;
+use crate::lists::narrow;
 use crate::said::say_arrival;
 use crate::said::say_making;
 use crate::said::say_slot;
 use crate::whole::say_whole;
-use model::SlotAnswer;
 use port::Port;
 
 const FED: u32 = 300;
 
-// Ends of slot, each said, until one is idle or refused, and no more than this many.
-fn end_slots(sum: &mut u64, port: Port, most: u32) -> Port {
+// How many ends of slot are called for one packet at most.
+const ENDS: u32 = 300;
+
+// So many ends of slot, each said, whatever they answer.
+fn end_slots(sum: &mut u64, port: Port, times: u32) -> Port {
     let mut left = port;
     let mut i = 0;
-    while i < most {
+    while i < times {
         let end = left.end_of_slot();
         left = end.port;
         let answer = end.answer;
         say_slot(sum, answer);
-        let SlotAnswer::Sent(_) = answer else {
-            return left;
-        };
         i += 1;
     }
     left
 }
 
-// A packet of the trace: the ends of the slots from now to its own, then its arrival.
+// How many ends of slot are called before a packet of this slot.
+fn ends(now: u32, slot: u32) -> u32 {
+    let gap = less(slot, now);
+    if gap < ENDS { gap } else { ENDS }
+}
+
+// A packet of the trace: the ends of the slots from now to the one before its own, then its arrival.
 fn take(sum: &mut u64, port: Port, now: u32, slot: u32, value: u32) -> Port {
-    let arrival = end_slots(sum, port, less(slot, now)).arrive(value);
+    let arrival = end_slots(sum, port, ends(now, slot)).arrive(value);
     let answer = arrival.answer;
     say_arrival(sum, answer);
     arrival.port
 }
 
-// Feeds a port the first n packets, and then ends slots until one is idle or refused: no port holds more than Port::ROOM packets to send.
+// Feeds a port the first n packets, and then ends slots until nothing is held, and two more.
 fn feed(sum: &mut u64, port: Port, n: usize, slots: &[u32], values: &[u32]) -> Port {
     let mut left = port;
     let mut now = 1;
@@ -47,7 +54,8 @@ fn feed(sum: &mut u64, port: Port, n: usize, slots: &[u32], values: &[u32]) -> P
         now = slot;
         i += 1;
     }
-    end_slots(sum, left, Port::ROOM as u32 + 1)
+    let held = narrow(left.held);
+    end_slots(sum, left, more(held, 2))
 }
 
 // How many of n packets are fed.

@@ -1,14 +1,14 @@
--- `compare::live::end_slots` is safe and ends: nothing has to hold from turn to turn, and most - i falls.
+-- `compare::live::end_slots` is safe and ends: nothing has to hold from turn to turn, and times - i falls.
 use borrow.Author.Needs.{needs}
 use Prim.Native.Nat.{_-_}
 use Rattle.compare.proofs.live.end_slots.Statement.{statement}
 use Rattle.compare.proofs.live.end_slots.Tie as tie
 
 abbrev Inv-loop : tie.InvT-loop
-Inv-loop sum₀ most left₀ i₀ sum left i = Unit {0}
+Inv-loop sum₀ times left₀ i₀ sum left i = Unit {0}
 
 abbrev μ-loop : tie.MeasureT-loop
-μ-loop sum₀ most left₀ i₀ sum left i = most - i
+μ-loop sum₀ times left₀ i₀ sum left i = times - i
 
 loop-holds : tie.Need-loop-holds Inv-loop μ-loop
 loop-holds c = search needs
@@ -19,12 +19,6 @@ end-of-slot-requires c κs = search needs
 say-slot-requires : tie.Need-say-slot-requires Inv-loop μ-loop
 say-slot-requires c κs = search needs
 
-enum-told : tie.Need-enum-told Inv-loop μ-loop
-enum-told c = search needs
-
-returns : tie.Need-returns Inv-loop μ-loop
-returns c = search needs
-
 add-i : tie.Need-add-i Inv-loop μ-loop
 add-i c = search needs
 
@@ -34,8 +28,8 @@ loop-less c = search needs
 loop-again : tie.Need-loop-again Inv-loop μ-loop
 loop-again c = search needs
 
-returns-2 : tie.Need-returns-2 Inv-loop μ-loop
-returns-2 c = search needs
+returns : tie.Need-returns Inv-loop μ-loop
+returns c = search needs
 
 pub end-slots-spec : {M : Type 1} → statement M
 end-slots-spec =
@@ -46,9 +40,7 @@ end-slots-spec =
     loop-holds
     end-of-slot-requires
     say-slot-requires
-    enum-told
-    returns
     add-i
     loop-less
     loop-again
-    returns-2)
+    returns)

@@ -31,11 +31,11 @@ loop-less c = search needs
 loop-again : tie.Need-loop-again Inv-loop μ-loop
 loop-again c = search needs
 
-cast-end-slots : tie.Need-cast-end-slots Inv-loop μ-loop
-cast-end-slots c = search needs
+narrow-requires : tie.Need-narrow-requires Inv-loop μ-loop
+narrow-requires c κs = search needs
 
-add-end-slots : tie.Need-add-end-slots Inv-loop μ-loop
-add-end-slots c = search needs
+more-requires : tie.Need-more-requires Inv-loop μ-loop
+more-requires c κs = search needs
 
 end-slots-requires : tie.Need-end-slots-requires Inv-loop μ-loop
 end-slots-requires c κs = search needs
@@ -56,7 +56,7 @@ feed-spec =
     add-i
     loop-less
     loop-again
-    cast-end-slots
-    add-end-slots
+    narrow-requires
+    more-requires
     end-slots-requires
     returns)
