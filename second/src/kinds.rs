@@ -1,6 +1,6 @@
 //! Counts how often each kind of case comes, so that none is missing without being seen.
 
-use crate::cases::{answer, Answered, Call, Case};
+use crate::cases::{answer, Answered, Call, Case, GAP_ENDS};
 use crate::port::{Port, MAX_NUMBER, PLACES};
 use crate::rules::{refuse_1, refuse_2, refuse_3, refuse_4_beta, refuse_4_mf, value_bad, MAX_SLOT};
 use std::collections::BTreeMap;
@@ -18,12 +18,17 @@ pub fn count(cases: u64) -> BTreeMap<String, u64> {
         kinds.extend(neither_lo_nor_hi(&answered));
         kinds.extend(answered.by_hand.iter().flat_map(unsound));
         kinds.extend(spent(&answered));
+        kinds.extend(fed(&answered));
         for kind in kinds {
             *counts.entry(kind).or_insert(0) += 1;
         }
     }
     counts
 }
+
+const IDLE_IN_A_ROW: &str = "fed port: three or more idle ends in a row";
+const IDLE_THEN_HELD: &str = "fed port: idle, then an arrival that is held";
+const LONG_GAP: &str = "fed port: a gap of 300 or more slots";
 
 const LISTS: [&str; 5] = ["slots", "values", "fates", "whens", "bys"];
 
@@ -91,6 +96,9 @@ fn all() -> Vec<String> {
     }
     for number in [6, 7] {
         kinds.push(format!("port by hand: numbers spent, answers {number}"));
+    }
+    for kind in [IDLE_IN_A_ROW, IDLE_THEN_HELD, LONG_GAP] {
+        kinds.push(kind.to_string());
     }
     for clause in UNSOUND {
         kinds.push(format!("port by hand: {clause}"));
@@ -205,6 +213,36 @@ fn spent(answered: &Answered) -> Option<String> {
     } else {
         None
     }
+}
+
+/// What comes of the ends of slots of the port that is fed: rows of ends, each up to an arrival or
+/// to the feed's end.
+fn fed(answered: &Answered) -> Vec<String> {
+    let (mut ends, mut idle) = (0, 0);
+    let mut kinds = Vec::new();
+    for call in &answered.calls {
+        let number = call.numbers[0];
+        match call.what.as_str() {
+            "end of slot" => {
+                ends += 1;
+                idle = if number == 0 { idle + 1 } else { 0 };
+                if idle == 3 {
+                    kinds.push(IDLE_IN_A_ROW.to_string());
+                }
+                if ends == GAP_ENDS {
+                    kinds.push(LONG_GAP.to_string());
+                }
+            }
+            "arrival" => {
+                if idle > 0 && [0, 3, 4].contains(&number) {
+                    kinds.push(IDLE_THEN_HELD.to_string());
+                }
+                (ends, idle) = (0, 0);
+            }
+            _ => {}
+        }
+    }
+    kinds
 }
 
 /// Each way in which a port is not sound.

@@ -21,6 +21,8 @@ pub struct Cases {
 type Run = Rc<dyn Fn(&Trace, &mut Record) -> Answer>;
 
 const SEED: u64 = 20_261_115;
+/// A beta out of range.
+const NO_BETA: Beta = Beta { num: 1, den: 1 };
 const NAMES: [&str; 3] = ["ours", "rust", "tuned"];
 
 fn poisoned(packets: usize) -> Record {
@@ -77,6 +79,23 @@ impl Cases {
         results.swap_remove(0).1
     }
 
+    /// A call that every version refuses, in the same words and with nothing written.
+    fn refused(&mut self, name: &str, trace: &Trace, runs: [Option<Run>; 3]) {
+        let packets = trace.slots.len();
+        let mut first = None;
+        for (run, version) in runs.iter().zip(NAMES) {
+            let Some(run) = run else { continue };
+            let mut record = poisoned(packets);
+            let answer = run(trace, &mut record);
+            if answer.is_ok() || *first.get_or_insert(answer) != answer {
+                self.differs(name, version, "the refusal");
+            }
+            if record != poisoned(packets) {
+                self.differs(name, version, "what a refusal writes");
+            }
+        }
+    }
+
     fn audit(&mut self, name: &str, trace: &Trace, room: usize, record: &Record) {
         let calls: [fn(&Trace, usize, &Record) -> Answer; 3] =
             [ours::audit, plain::audit, tuned::audit];
@@ -122,6 +141,12 @@ impl Cases {
         for length in [events.len(), events.len() / 2, 1, 0] {
             if calls[0](&events[..length], room, beta) != calls[1](&events[..length], room, beta) {
                 self.differs(name, "rust", "what the port says");
+            }
+        }
+        for (room, beta) in [(0, beta), (257, beta), (room, NO_BETA)] {
+            let said = calls[0](&events, room, beta);
+            if said >> 32 == 0 || said != calls[1](&events, room, beta) {
+                self.differs(name, "rust", "a refused making");
             }
         }
         let versions = calls.map(|call| {
@@ -268,8 +293,45 @@ pub fn all() -> Cases {
         );
     }
 
+    compare_refused(&mut cases);
     compare_more(&mut cases);
     cases
+}
+
+/// Refused calls, compared and not timed.
+fn compare_refused(cases: &mut Cases) {
+    let beta = Beta { num: 3, den: 2 };
+    let fine = two_values(20, 3, 40, SEED);
+    let mut slots_down = fine.clone();
+    slots_down.slots[6] = 0;
+    let mut no_value = fine.clone();
+    no_value.values[8] = VALUE + 1;
+    let mut one_short = fine.clone();
+    one_short.values.pop();
+    for (name, trace, room) in [
+        ("refused: room 0", &fine, 0),
+        ("refused: room 257", &fine, 257),
+        ("refused: a slot", &slots_down, 16),
+        ("refused: a value", &no_value, 16),
+        ("refused: lengths", &one_short, 16),
+    ] {
+        let mf = runs(
+            move |t, r| ours::mf(t, room, (3, 40, 1), r),
+            move |t, r| plain::mf(t, room, (3, 40, 1), r),
+            None,
+        );
+        for versions in [greedy(room), pg(room, beta), plan(room), mf] {
+            cases.refused(name, trace, versions);
+        }
+        let record = poisoned(trace.slots.len());
+        let first = ours::audit(trace, room, &record);
+        for audit in [plain::audit, tuned::audit] {
+            if audit(trace, room, &record) != first {
+                cases.differs(name, "an audit", "the refusal");
+            }
+        }
+    }
+    cases.refused("refused: beta", &fine, pg(16, NO_BETA));
 }
 
 /// Random traces that are compared and not timed: short ones, with few and many values, rooms of all sizes.

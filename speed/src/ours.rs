@@ -27,10 +27,20 @@ extern "C" {
     fn host_port(events: *const u32, events_len: usize, room: usize, num: u32, den: u32) -> u64;
 }
 
+/// What the list of totals holds before a call.
+const BEFORE: [u32; 13] = [77; 13];
+
+/// The first number of a fault: a refusal's is below it.
+const FAULT: u32 = 11;
+
+/// A refusal writes no totals, and a fault's are all 0.
 fn answer(code: u64, t: [u32; 13]) -> Answer {
     if code != 0 {
+        let number = (code >> 32) as u32;
+        let left = if number < FAULT { BEFORE } else { [0; 13] };
+        assert_eq!(t, left, "the totals of a call that answered {number}");
         return Err(No {
-            number: (code >> 32) as u32,
+            number,
             place: code as u32,
         });
     }
@@ -47,7 +57,7 @@ fn answer(code: u64, t: [u32; 13]) -> Answer {
 
 macro_rules! call {
     ($call:ident, $trace:expr, $record:expr, $lent:ident, $room:expr $(, $own:expr)*) => {{
-        let mut totals = [0; 13];
+        let mut totals = BEFORE;
         // SAFETY: every pointer and length is that of one living list, and the lists that are written are lent mutably; the audit writes the totals alone.
         let code = unsafe {
             $call(

@@ -154,12 +154,16 @@ fn mix(sum: u64, said: u32, given: u32, packet: Packet) -> u64 {
 }
 
 /// Makes a port and feeds it events: 0 is an end of slot, any other number an arrival of that value. All that the port says is mixed into one number.
+/// A refused making is its number times 2^32 and its place, 0, and nothing is fed.
 pub fn feed(events: &[u32], room: usize, beta: Beta) -> u64 {
     let nobody = Packet {
         number: 0,
         value: 0,
     };
-    let (mut port, _) = Port::new(room, beta);
+    let (mut port, made) = Port::new(room, beta);
+    if let Err(number) = made {
+        return u64::from(number) << 32;
+    }
     let mut sum = 0;
     for &event in events {
         if event == 0 {

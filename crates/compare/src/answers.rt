@@ -1,14 +1,14 @@
 // A case, from its number to all that is said of it.
+use crate::bad::case_of;
 use crate::calls::Call;
 use crate::calls::say_call;
 use crate::calls::say_damages;
-use cases::bad::case_of;
-use cases::case::Case;
-use cases::case::PLACES;
-use cases::case::length_of;
-use draws::draw::source_of;
-use feeds::hand::say_hand;
-use feeds::live::say_port;
+use crate::case::Case;
+use crate::case::PLACES;
+use crate::case::length_of;
+use crate::draw::source_of;
+use crate::hand::say_hand;
+use crate::live::say_port;
 
 // The three policies and the offline plan, each with the audit of what it left.
 fn say_runs(sum: &mut u64, case: Case, slots: &[u32], values: &[u32], mf_values: &[u32]) {

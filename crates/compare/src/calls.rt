@@ -1,18 +1,18 @@
 // The calls on a trace, and what is said of each: a policy or the offline plan, with the audit of its record, and the audits of damaged records.
+use crate::case::Case;
+use crate::case::PLACES;
+use crate::case::length_of;
+use crate::damage::damage_some;
+use crate::draw::draw;
+use crate::said::say_audit;
+use crate::said::say_record;
+use crate::said::say_run;
 use audit::audit;
-use cases::case::Case;
-use cases::case::PLACES;
-use cases::case::length_of;
-use draws::damage::damage_some;
-use draws::draw::draw;
 use mf::calls::mf;
 use model::RunAnswer;
 use plan::calls::plan;
 use runs::calls::greedy;
 use runs::calls::pg;
-use said::say_audit;
-use said::say_record;
-use said::say_run;
 
 // A policy or the offline plan.
 pub enum Call {

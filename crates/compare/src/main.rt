@@ -1,6 +1,15 @@
 // Answers the random cases of second/CASES.md with the proved calls, and writes one line for each batch of them.
 mod answers;
+mod bad;
 mod calls;
+mod case;
+mod damage;
+mod draw;
+mod hand;
+mod lists;
+mod live;
+mod said;
+mod whole;
 
 use crate::answers::say_case;
 use libc::STDOUT_FILENO;

@@ -1,11 +1,13 @@
--- What is heard of one event, and what of each answer of a port.
+-- What is heard of a making, of one event, and of each answer of a port. All that is heard is a remainder by 2 ^ 32.
 use Prim.Native.Nat.{ℕ, _+_, _<_, _≤_, _^_}
 use mathlib.Core.Path.{_≡_, refl, ap, sym, _∙_}
-use mathlib.Core.List.{List}
+use mathlib.Core.Bool.{false}
+use mathlib.Core.List.{List, [], _∷_}
 use native.Mathlib.Numerals.{add-one}
 use native.Mathlib.Omega.{arith}
 use lib.ListN.{length, getD, drop, drop-of-length-le}
 use lib.Seq.{drop-cons}
+use lib.Dec.{eqb}
 use borrow.Author.Tests.{eq-eqb, ne-eqb}
 use Rattle.model.specs.declared.Fate.the-variants as fates
 use Rattle.model.specs.declared.Loss.{Loss}
@@ -16,14 +18,51 @@ use Rattle.model.specs.declared.ArrivalAnswer.{ArrivalAnswer}
 use Rattle.model.specs.declared.ArrivalAnswer.the-variants as arrival
 use Rattle.model.specs.declared.SlotAnswer.{SlotAnswer}
 use Rattle.model.specs.declared.SlotAnswer.the-variants as slot
+use Rattle.model.specs.declared.Cause.{Cause}
+use Rattle.model.specs.declared.Cause.the-variants as causes
+use Rattle.model.specs.declared.MakingAnswer.{MakingAnswer}
+use Rattle.model.specs.declared.MakingAnswer.the-variants as making
 use Rattle.model.specs.Record.{fateNumber, lossFate}
-use Rattle.model.specs.Answers.{causeNumber, ofArrival, ofSlot}
+use Rattle.model.specs.Answers.{causeNumber, ofArrival, ofSlot, ofMaking}
 use Rattle.model.specs.Port.{PortState, PortOutcome, arriveCall, endOfSlotCall}
-use Rattle.host.specs.Live.{mixed, mixedIn, callOf, heard}
+use Rattle.host.specs.Live.{mixed, mixedIn, callOf, heard, heardOf, HeardBelow}
+use Rattle.host.specs.Said.{codeOf}
+use Rattle.host.proofs.Saying.{coded}
 
 pub mixed-fits : (sum said place given number value : ℕ) → mixed sum said place given number value < 2 ^ 32
 unfolding mixed
 mixed-fits sum said place given number value = omega arith
+
+below : (port : PortState) {sum : ℕ} (events : List ℕ) → sum < 2 ^ 32 → heard port sum events < 2 ^ 32
+unfolding heard
+below port [] fits = fits
+below port (event ∷ events) fits = below (callOf port event .port) events (mixed-fits _ _ _ _ _ _)
+
+pub heard-below : HeardBelow
+heard-below port events = below port events (omega arith)
+
+-- a port that was made is fed; no refusal's number is 0
+pub of-made : {answer : MakingAnswer} {port : PortState} {outcome : PortOutcome} (events : List ℕ) {r : ℕ}
+    → record { reply = ofMaking answer; port = port } ≡ outcome → answer ≡ making.Made → r ≡ heard port 0 events → r ≡ heardOf outcome events
+unfolding heardOf
+of-made events is made hears = rw (← is) (rw made hears)
+
+refuses : (cause : Cause) → eqb (causeNumber cause) 0 ≡ false
+refuses causes.Lengths = refl
+refuses causes.Packets = refl
+refuses causes.Room = refl
+refuses causes.Parameters = refl
+refuses causes.Slot = refl
+refuses causes.Value = refl
+refuses causes.Spent = refl
+refuses causes.Unsound = refl
+refuses causes.Text = refl
+
+pub of-not-made : {answer : MakingAnswer} (f : Refusal) {port : PortState} {outcome : PortOutcome} (events : List ℕ) {n r : ℕ}
+    → record { reply = ofMaking answer; port = port } ≡ outcome → answer ≡ making.Refused f → n ≡ causeNumber (f .cause) → r ≡ codeOf n (f .place)
+    → r ≡ heardOf outcome events
+unfolding heardOf
+of-not-made f events is refused says codes = rw (← is) (rw refused (rw (refuses (f .cause)) (coded (f .place) says codes)))
 
 pub heard-done : (port : PortState) (sum : ℕ) (events : List ℕ) (i : ℕ) → length events ≤ i → heard port sum (drop i events) ≡ sum
 unfolding heard

@@ -1,21 +1,25 @@
 -- What a call on a trace says through the door: one number, the three lists of the record, and a list of totals.
 use Prim.Native.Nat.{ℕ, _+_, _*_, _^_}
 use mathlib.Core.Path.{_≡_}
+use mathlib.Core.Bool.{Bool, cond, _||_}
 use mathlib.Core.List.{List}
 use lib.ListN.{set}
+use lib.Dec.{eqb}
 use Rattle.model.specs.declared.Beta.{Beta}
 use Rattle.model.specs.declared.Tally.{Tally}
 use Rattle.model.specs.declared.Totals.{Totals}
+use Rattle.model.specs.declared.Fault.the-variants as faults
+use Rattle.model.specs.Limits.{within}
 use Rattle.model.specs.Record.{Lists}
-use Rattle.model.specs.Answers.{Reply}
+use Rattle.model.specs.Answers.{Reply, faultNumber}
 use Rattle.model.specs.Calls.{Outcome}
 
 abbrev pub betaOf : ℕ → ℕ → Beta
 betaOf num den = record { num = num; den = den }
 
 -- 0, or a refusal's or a fault's number times 2 ^ 32 and its place
-abbrev pub codeOf : Reply → ℕ
-codeOf reply = reply .number * 2 ^ 32 + reply .place
+abbrev pub codeOf : ℕ → ℕ → ℕ
+codeOf number place = number * 2 ^ 32 + place
 
 -- a tally at two places of a list
 abbrev pub tallied : ℕ → Tally → List ℕ → List ℕ
@@ -34,10 +38,14 @@ told totals list =
     12
     (totals .«most_held»)
 
--- a reply is said by a number and in the list of totals
+-- no number, or a fault's: a refusal gives no totals, an audit that names a fault answers them all as 0
+abbrev pub givesTotals : ℕ → Bool
+givesTotals number = eqb number 0 || within (faultNumber faults.FateOutside) (faultNumber faults.OverRoom) number
+
+-- a reply is said by a number and in the list of totals, into which a refusal writes nothing
 pub record SaidOfAudit (reply : Reply) (before : List ℕ) (answer : ℕ) (after : List ℕ) : Type 0 where
-  pub number : answer ≡ codeOf reply
-  pub totals : after ≡ told (reply .totals) before
+  pub number : answer ≡ codeOf (reply .number) (reply .place)
+  pub totals : after ≡ cond (givesTotals (reply .number)) (told (reply .totals) before) before
 
 -- and so is an outcome, whose record stands in the three lists
 pub record Said (outcome : Outcome) (before : List ℕ) (answer : ℕ) (record-lists : Lists) (after : List ℕ) : Type 0 where

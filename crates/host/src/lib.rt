@@ -7,19 +7,21 @@ ghost use Rattle.model.specs.Port.{makeCall};
 ghost use mathlib.Core.Path.{_≡_};
 ghost use Rattle.trace.specs.Checked.{markingOf, listsOf};
 ghost use Rattle.host.specs.Said.{betaOf, Said, SaidOfAudit};
-ghost use Rattle.host.specs.Live.{heard};
+ghost use Rattle.host.specs.Live.{heardOf};
 use crate::live::feed;
+use crate::said::code;
 use crate::said::say_audit;
 use crate::said::say_run;
 use audit::audit;
 use mf::calls::mf;
 use model::Beta;
+use model::MakingAnswer;
 use plan::calls::plan;
 use port::Port;
 use runs::calls::greedy;
 use runs::calls::pg;
 
-// Plain greedy. Every call answers 0, or a refusal's number times 2^32 and its place, and writes its totals.
+// Plain greedy. Every call answers 0 and writes its totals, or it answers a refusal's number times 2^32 and its place, and writes nothing.
 #[no_mangle]
 pub extern "C" fn host_greedy(
     slots: &[u32],
@@ -94,7 +96,7 @@ pub extern "C" fn host_plan(
     say_run(plan(slots, values, room, fates, whens, bys), totals)
 }
 
-// The audit: it only reads the record.
+// The audit: it only reads the record. A fault is answered as a refusal is, with totals that are all 0.
 #[no_mangle]
 pub extern "C" fn host_audit(
     slots: &[u32],
@@ -110,12 +112,18 @@ pub extern "C" fn host_audit(
     say_audit(audit(slots, values, room, fates, whens, bys), totals)
 }
 
-// A port is made and fed events by value: 0 is an end of slot, any other number an arrival of that value. The answer mixes all that the port says, in order.
+// A port is made and fed events by value: 0 is an end of slot, any other number an arrival of that value. The answer mixes all that the port says, in order. Where the making is refused it is the refusal's number times 2^32 and its place, which is above all such mixes, and nothing is fed.
 #[no_mangle]
 pub extern "C" fn host_port(events: &[u32], room: usize, num: u32, den: u32) -> u64
-    ensures { λ r. ⌜ r ≡ heard (makeCall room (betaOf num den) .port) 0 (now (events .entry)) ⌝ }
+    ensures { λ r. ⌜ r ≡ heardOf (makeCall room (betaOf num den)) (now (events .entry)) ⌝ }
 {
     let made = Port::new(room, Beta { num, den });
-    let port = made.port;
-    feed(port, events)
+    let answer = made.answer;
+    match answer {
+        MakingAnswer::Made => feed(made.port, events),
+        MakingAnswer::Refused(refusal) => {
+            let cause = refusal.cause;
+            code(cause.number(), refusal.place)
+        }
+    }
 }

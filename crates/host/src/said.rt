@@ -1,8 +1,8 @@
 // What a call on a trace answers, as one number and a lent list of totals.
 ghost use mathlib.Core.Path.{_≡_};
-ghost use Prim.Native.Nat.{_+_, _*_, _<_, _^_};
+ghost use Prim.Native.Nat.{_<_};
 ghost use Rattle.model.specs.Answers.{ofRun, ofAudit};
-ghost use Rattle.host.specs.Said.{tallied, told, SaidOfAudit};
+ghost use Rattle.host.specs.Said.{codeOf, tallied, told, SaidOfAudit};
 use entry::put;
 use model::AuditAnswer;
 use model::RunAnswer;
@@ -31,12 +31,14 @@ fn tell(list: &mut [u32], totals: Totals)
     put(list, 12, totals.most_held);
 }
 
-fn code(number: u32, place: u32) -> u64
-    ensures { λ r. ⌜ r ≡ number * 2 ^ 32 + place ⌝ }
+// A refusal or a fault in one number.
+pub fn code(number: u32, place: u32) -> u64
+    ensures { λ r. ⌜ r ≡ codeOf number place ⌝ }
 {
     number as u64 * 4_294_967_296 + place as u64
 }
 
+// A refusal writes no totals.
 pub fn say_run(answer: RunAnswer, totals: &mut [u32]) -> u64
     ensures { λ r. ⌜ SaidOfAudit (ofRun answer) (now (totals .entry)) r (now (totals .exit)) ⌝ }
 {
@@ -46,13 +48,13 @@ pub fn say_run(answer: RunAnswer, totals: &mut [u32]) -> u64
             0
         }
         RunAnswer::Refused(refusal) => {
-            tell(totals, none());
             let cause = refusal.cause;
             code(cause.number(), refusal.place)
         }
     }
 }
 
+// A fault's totals are all 0; a refusal writes none.
 pub fn say_audit(answer: AuditAnswer, totals: &mut [u32]) -> u64
     ensures { λ r. ⌜ SaidOfAudit (ofAudit answer) (now (totals .entry)) r (now (totals .exit)) ⌝ }
 {
@@ -68,7 +70,6 @@ pub fn say_audit(answer: AuditAnswer, totals: &mut [u32]) -> u64
             code(fault.number(), packet.0)
         }
         AuditAnswer::Refused(refusal) => {
-            tell(totals, none());
             let cause = refusal.cause;
             code(cause.number(), refusal.place)
         }

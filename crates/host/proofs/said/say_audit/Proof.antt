@@ -1,4 +1,5 @@
 -- `host::said::say_audit` meets its contract: in each arm the answer is known, and Saying has what it says.
+use mathlib.Core.Path.{refl}
 use Rattle.host.proofs.Saying.{passed, faulty, audit-refused}
 use borrow.Author.Needs.{needs}
 use Rattle.host.proofs.said.say_audit.Statement.{statement}
@@ -28,12 +29,6 @@ code-requires c κs = search needs
 enum-known-answer-3 : tie.Need-enum-known-answer-3
 enum-known-answer-3 c = search needs
 
-none-requires-2 : tie.Need-none-requires-2
-none-requires-2 c κs = search needs
-
-tell-requires-3 : tie.Need-tell-requires-3
-tell-requires-3 c κs = search needs
-
 number-requires-2 : tie.Need-number-requires-2
 number-requires-2 c κs = search needs
 
@@ -52,11 +47,8 @@ same-length-2 c = search needs
 returns-2 : tie.Need-returns-2
 returns-2 c = faulty _ (c .before .before .before .before .before .before .before .before .before .answer2 .given .1) (c .before .before .before .before .before .before .none .ensures) (c .before .before .before .before .before .tell2 .ensures) (c .before .number .ensures) (c .code .ensures)
 
-same-length-3 : tie.Need-same-length-3
-same-length-3 c = search needs
-
 returns-3 : tie.Need-returns-3
-returns-3 c = audit-refused _ (c .before .before .before .before .before .before .before .before .answer3 .given .1) (c .before .before .before .before .before .none2 .ensures) (c .before .before .before .before .tell3 .ensures) (c .before .number2 .ensures) (c .code2 .ensures)
+returns-3 c = audit-refused _ (c .before .before .before .answer3 .given .1) refl (c .before .number2 .ensures) (c .code2 .ensures)
 
 pub say-audit-spec : {M : Type 1} → statement M
 say-audit-spec =
@@ -70,13 +62,10 @@ say-audit-spec =
     number-requires
     code-requires
     enum-known-answer-3
-    none-requires-2
-    tell-requires-3
     number-requires-2
     code-requires-2
     same-length
     returns
     same-length-2
     returns-2
-    same-length-3
     returns-3)

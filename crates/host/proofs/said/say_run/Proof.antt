@@ -1,4 +1,5 @@
 -- `host::said::say_run` meets its contract: in each arm the answer is known, and Saying has what it says.
+use mathlib.Core.Path.{refl}
 use Rattle.host.proofs.Saying.{ran, run-refused}
 use borrow.Author.Needs.{needs}
 use Rattle.host.proofs.said.say_run.Statement.{statement}
@@ -13,12 +14,6 @@ tell-requires c κs = search needs
 enum-known-answer-2 : tie.Need-enum-known-answer-2
 enum-known-answer-2 c = search needs
 
-none-requires : tie.Need-none-requires
-none-requires c κs = search needs
-
-tell-requires-2 : tie.Need-tell-requires-2
-tell-requires-2 c κs = search needs
-
 number-requires : tie.Need-number-requires
 number-requires c κs = search needs
 
@@ -31,11 +26,8 @@ same-length c = search needs
 returns : tie.Need-returns
 returns c = ran _ (c .before .before .before .before .before .answer .given .1) (c .before .before .tell .ensures)
 
-same-length-2 : tie.Need-same-length-2
-same-length-2 c = search needs
-
 returns-2 : tie.Need-returns-2
-returns-2 c = run-refused _ (c .before .before .before .before .before .before .before .before .answer2 .given .1) (c .before .before .before .before .before .none .ensures) (c .before .before .before .before .tell2 .ensures) (c .before .number .ensures) (c .code .ensures)
+returns-2 c = run-refused _ (c .before .before .before .answer2 .given .1) refl (c .before .number .ensures) (c .code .ensures)
 
 pub say-run-spec : {M : Type 1} → statement M
 say-run-spec =
@@ -44,11 +36,8 @@ say-run-spec =
     enum-known-answer
     tell-requires
     enum-known-answer-2
-    none-requires
-    tell-requires-2
     number-requires
     code-requires
     same-length
     returns
-    same-length-2
     returns-2)

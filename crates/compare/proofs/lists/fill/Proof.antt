@@ -1,0 +1,48 @@
+-- `compare::lists::fill` is safe and ends: the list keeps its length, and n - i falls.
+use borrow.Author.Needs.{needs}
+use Prim.Native.Nat.{_-_}
+use lib.ListN.{length}
+use mathlib.Core.Path.{_≡_}
+use Rattle.compare.proofs.lists.fill.Statement.{statement}
+use Rattle.compare.proofs.lists.fill.Tie as tie
+
+abbrev Inv-loop : tie.InvT-loop
+Inv-loop list₀ x n i₀ list i = length list ≡ length list₀
+
+abbrev μ-loop : tie.MeasureT-loop
+μ-loop list₀ x n i₀ list i = n - i
+
+loop-holds : tie.Need-loop-holds Inv-loop μ-loop
+loop-holds c = search needs
+
+put-requires : tie.Need-put-requires Inv-loop μ-loop
+put-requires c κs = search needs
+
+add-i : tie.Need-add-i Inv-loop μ-loop
+add-i c = search needs
+
+loop-less : tie.Need-loop-less Inv-loop μ-loop
+loop-less c = search needs
+
+loop-again : tie.Need-loop-again Inv-loop μ-loop
+loop-again c = search needs
+
+same-length : tie.Need-same-length Inv-loop μ-loop
+same-length c = search needs
+
+returns : tie.Need-returns Inv-loop μ-loop
+returns c = search needs
+
+pub fill-spec : {M : Type 1} → statement M
+fill-spec =
+    tie.close
+    (tie.spec
+    Inv-loop
+    μ-loop
+    loop-holds
+    put-requires
+    add-i
+    loop-less
+    loop-again
+    same-length
+    returns)
