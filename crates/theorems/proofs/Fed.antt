@@ -23,6 +23,8 @@ use Rattle.model.specs.Calls.{runUnless, pgCall}
 use Rattle.model.specs.Port.{PortState, PortOutcome, fresh, sound, all, risesFrom, packetsOf, holding, unlessRefused, makeCall, arriveCall, endOfSlotCall}
 use Rattle.port.proofs.Calls.{making-done, queue-none, slot-idle}
 use Rattle.port.proofs.Sound.{made-sound}
+use Rattle.laws.proofs.PG.{pgAtOnce}
+use Rattle.laws.proofs.Agree.{ends-same as ends-alike}
 use Rattle.laws.proofs.Conserving.{conserving-pg, slotEnds-shorter}
 use Rattle.laws.proofs.FirstFault.{orElse-zero, verdictIf-zero}
 use Rattle.laws.proofs.Accepted.{pg-accepted}
@@ -71,6 +73,7 @@ module _ (room : ℕ) (beta : Beta) where
     fed-same last now queue port [] values C same ok comes =
         let E = ends-same last (port .held) now queue port C in
         let none = slotEnds-shorter (conserving-pg room beta) (port .held) (slotAt now) queue in
+        let alike = ap (λ (step : Step (List Packet)). length (step .next)) (ends-alike (pgRule room beta) (pgAtOnce room beta) (port .held) (slotAt now) queue) in
         record {
           n = port .held;
           log =

@@ -15,6 +15,7 @@ use Rattle.model.specs.Policies.MF.{unmarked}
 use Rattle.model.specs.Policies.Plan.{planKept}
 use Rattle.model.specs.Calls.{Outcome, ran, runUnless, greedyCall, pgCall, mfCall, planCall, auditCall}
 use Rattle.laws.proofs.Cases.{eqb-cases}
+use Rattle.laws.proofs.PG.{pg-run}
 use Rattle.laws.proofs.Times.{times, timesEntered, timesArriving}
 use Rattle.laws.proofs.Entered.{EnteredOnce, Sized, blank-sized, entered-sized, entered-all}
 use Rattle.laws.proofs.Conserving.{course-conserves, conserving-greedy, conserving-pg, conserving-kept, conserving-mf}
@@ -86,7 +87,8 @@ module _ (slots values : List ℕ) (room : ℕ) where
   entered-arriving : (n : ℕ) (by : Planner) → timesEntered n (entriesBy by slots values room) ≡ 0 + timesArriving n (arrivals slots values)
   unfolding times
   entered-arriving n greedy = course-conserves (conserving-greedy room) n first [] (arrivals slots values)
-  entered-arriving n (pg beta) = course-conserves (conserving-pg room beta) n first [] (arrivals slots values)
+  entered-arriving n (pg beta) =
+      rw (pg-run room beta (arrivals slots values)) (course-conserves (conserving-pg room beta) n first [] (arrivals slots values))
   entered-arriving n (mf M) = course-conserves (conserving-mf room M slots) n first (unmarked (length slots)) (arrivals slots values)
   entered-arriving n plan = course-conserves (conserving-kept (planKept room (arrivals slots values))) n first [] (arrivals slots values)
 

@@ -29,6 +29,7 @@ use Rattle.port.proofs.Sound.{slot-keeps, arrival-keeps, never-unsound}
 use Rattle.laws.proofs.Times.{times, times-append, times-without, length-without, ofPacket, timesHeld}
 use Rattle.laws.proofs.Fifo.{Fair, holds, rejects, loses, pg-fair}
 use Rattle.laws.proofs.Room.{roomy-pg}
+use Rattle.laws.proofs.PG.{pg-at-once}
 use Rattle.theorems.specs.Ledger.{Event, arrival, endOfSlot, callOn, givenBy, goneBy, timesIn}
 
 -- an arrival that is not refused
@@ -123,10 +124,13 @@ turn-arrival port value s h = go (valueOk value) refl (ltb (port .last .0) (port
         let S = sound-parts port s in
         let p = nextPacket port value in
         let a : Arrival = record { slot = first; packet = p } in
-        let fits = roomy-pg (port .room) (port .beta) a (queueOf port) (sound-queue port S .short) in
+        let short = sound-queue port S .short in
+        let fair : Fair (queueOf port) p (pgRule (port .room) (port .beta) (queueOf port) p) =
+        rw (pg-at-once (port .room) (port .beta) (queueOf port) p short) (pg-fair (queueOf port) p (port .room) (port .beta)) in
+        let fits = roomy-pg (port .room) (port .beta) a (queueOf port) short in
         subst (Turn _ _ (arrival value)) (sym (arrives port value s v (ltb-true _ _ n)))
         (turn-holding port (arrival value) _ (p .number) _ (omega (arith, fits, room-fits (port .room) (S .room-ok)))
-        (decides port value (pg-fair (queueOf port) p (port .room) (port .beta))))
+        (decides port value fair))
 
 turn-end : (port : PortState) → sound port ≡ true → port .held ≡ length (queueOf port) → Turn (port .last .0) (queueOf port) endOfSlot (endOfSlotCall port)
 unfolding times
