@@ -5,4 +5,3 @@ pub mod Parts
 pub mod Calls
 pub mod Choices
 pub mod Queues
-pub mod Sound

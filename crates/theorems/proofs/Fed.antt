@@ -22,7 +22,7 @@ use Rattle.model.specs.Answers.{ofMaking}
 use Rattle.model.specs.Calls.{runUnless, pgCall}
 use Rattle.model.specs.Port.{PortState, PortOutcome, fresh, sound, all, risesFrom, packetsOf, holding, unlessRefused, makeCall, arriveCall, endOfSlotCall}
 use Rattle.port.proofs.Calls.{making-done, queue-none, slot-idle}
-use Rattle.port.proofs.Sound.{made-sound}
+use Rattle.theorems.proofs.SoundPort.{made-sound}
 use Rattle.laws.proofs.PG.{pgAtOnce}
 use Rattle.laws.proofs.Agree.{ends-same as ends-alike}
 use Rattle.laws.proofs.Conserving.{conserving-pg, slotEnds-shorter}

@@ -6,7 +6,7 @@ use mathlib.Core.Path.{_≡_, refl, sym, ap, ap₂, subst, _∙_}
 use mathlib.Core.Bool.{true}
 use mathlib.Core.List.{List, [], _∷_}
 use lib.ListN.{length}
-use borrow.Author.Tests.{ltb-true, lt-ltb}
+use borrow.Author.Tests.{ltb-true}
 use Rattle.model.specs.declared.Packet.{Packet}
 use Rattle.model.specs.declared.PacketNumber.{PacketNumber}
 use Rattle.model.specs.declared.Beta.{Beta}
@@ -14,29 +14,19 @@ use Rattle.model.specs.Limits.{portLimits}
 use Rattle.model.specs.Packets.{Arrival}
 use Rattle.model.specs.Course.{Decided, entriesOf}
 use Rattle.model.specs.Policies.PG.{pgRule}
-use Rattle.model.specs.Refusals.{valueOk, arrivalRefusal}
-use Rattle.model.specs.Rules.{orElse}
+use Rattle.model.specs.Refusals.{valueOk}
 use Rattle.model.specs.Answers.{PortReply}
-use Rattle.model.specs.Port.{PortState, PortOutcome, sound, risesFrom, queueOf, holding, saysOf, nextPacket, unlessRefused, slotEnd, arriveCall, endOfSlotCall}
+use Rattle.model.specs.Port.{PortState, PortOutcome, sound, risesFrom, queueOf, holding, saysOf, nextPacket, slotEnd, arriveCall, endOfSlotCall}
 use Rattle.port.proofs.Padded.{both}
 use Rattle.port.proofs.Parts.{sound-parts}
 use Rattle.port.proofs.Queues.{Holdable, sound-queue}
 use Rattle.port.proofs.Holding.{queue-held}
 use Rattle.port.proofs.Calls.{slot-done}
-use Rattle.port.proofs.Sound.{slot-keeps, arrival-keeps}
+use Rattle.theorems.proofs.SoundPort.{slot-keeps, arrival-keeps, arrival-taken}
 use Rattle.laws.proofs.Room.{roomy-pg}
 use Rattle.checks.proofs.Tests.{within-to}
 use Rattle.theorems.specs.Fed.{arrives}
 use Rattle.theorems.proofs.FedLog.{Log, log-arrival}
-
--- an arrival that is not refused
-arrival-taken : (port : PortState) (value : ℕ) → sound port ≡ true → valueOk value ≡ true → port .last .0 < portLimits .number
-    → arriveCall port value
-    ≡ (let p = nextPacket port value in
-    let step = pgRule (port .room) (port .beta) (queueOf port) p in
-    record { reply = saysOf (p .number) (step .decision); port = holding port (p .number) (step .queue) })
-unfolding arriveCall arrivalRefusal orElse unlessRefused
-arrival-taken port value s v n = rw (s, v, lt-ltb _ _ n) refl
 
 module _ (room : ℕ) (beta : Beta) where
   -- the port is sound, has this room and beta, has given this number last, and holds this queue

@@ -20,7 +20,7 @@ use Rattle.model.specs.Policies.PG.{pgRule}
 use Rattle.model.specs.Refusals.{makingRefusal, arrivalRefusal}
 use Rattle.model.specs.Answers.{causeNumber}
 use Rattle.model.specs.Port.{PortState, PortOutcome, sound, packetsOf, queueOf, saysOf, nextPacket, unlessRefused, zeroPort, makeCall, arriveCall}
-use Rattle.port.proofs.Sound.{made-sound}
+use Rattle.theorems.proofs.SoundPort.{made-sound}
 use Rattle.laws.proofs.Cases.{eqb-cases, cond-cases}
 use Rattle.laws.proofs.Times.{times, times-append, timesHeld}
 use Rattle.theorems.specs.Ledger.{Event, arrival, callOn, portAfter, told, replyNumber, givenBy, goneBy, timesIn, LedgerKept, RefusedKeeps, RefusedMaking}

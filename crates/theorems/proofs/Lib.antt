@@ -18,6 +18,7 @@ pub mod Demand3
 pub mod Answered
 pub mod PlainMF
 pub mod FlushLeaves
+pub mod SoundPort
 pub mod FedLog
 pub mod FedSteps
 pub mod FedRefusals

@@ -7,7 +7,7 @@ use mathlib.Core.Bool.{Bool, true, false}
 use mathlib.Core.List.{List, [], _∷_, _++_}
 use lib.ListN.{length, getD, length-append}
 use lib.Dec.{ltb}
-use borrow.Author.Tests.{ltb-true, ltb-false, lt-ltb}
+use borrow.Author.Tests.{ltb-true, ltb-false}
 use Rattle.model.specs.declared.Cause.the-variants.{Unsound}
 use Rattle.model.specs.declared.LossKind.the-variants.{PushedOut, Preempted}
 use Rattle.model.specs.declared.Packet.{Packet}
@@ -17,29 +17,19 @@ use Rattle.model.specs.Packets.{Arrival, nobody}
 use Rattle.model.specs.Course.{Decided, first}
 use Rattle.model.specs.Policies.Greedy.{without}
 use Rattle.model.specs.Policies.PG.{pgRule}
-use Rattle.model.specs.Refusals.{valueOk, arrivalRefusal}
-use Rattle.model.specs.Rules.{orElse}
+use Rattle.model.specs.Refusals.{valueOk}
 use Rattle.model.specs.Answers.{PortReply, causeNumber}
-use Rattle.model.specs.Port.{PortState, PortOutcome, sound, queueOf, holding, saysOf, nextPacket, unlessRefused, slotEnd, arriveCall, endOfSlotCall}
+use Rattle.model.specs.Port.{PortState, PortOutcome, sound, queueOf, holding, saysOf, nextPacket, slotEnd, arriveCall, endOfSlotCall}
 use Rattle.port.proofs.Parts.{sound-parts, room-fits}
 use Rattle.port.proofs.Queues.{sound-queue}
 use Rattle.port.proofs.Holding.{queue-held}
 use Rattle.port.proofs.Calls.{arrival-value, arrival-spent, slot-done}
-use Rattle.port.proofs.Sound.{slot-keeps, arrival-keeps, never-unsound}
+use Rattle.theorems.proofs.SoundPort.{slot-keeps, arrival-keeps, arrival-taken, never-unsound}
 use Rattle.laws.proofs.Times.{times, times-append, times-without, length-without, ofPacket, timesHeld}
 use Rattle.laws.proofs.Fifo.{Fair, holds, rejects, loses, pg-fair}
 use Rattle.laws.proofs.Room.{roomy-pg}
 use Rattle.laws.proofs.PG.{pg-at-once}
 use Rattle.theorems.specs.Ledger.{Event, arrival, endOfSlot, callOn, givenBy, goneBy, timesIn}
-
--- an arrival that is not refused
-arrives : (port : PortState) (value : ℕ) → sound port ≡ true → valueOk value ≡ true → port .last .0 < portLimits .number
-    → arriveCall port value
-    ≡ (let p = nextPacket port value in
-    let step = pgRule (port .room) (port .beta) (queueOf port) p in
-    record { reply = saysOf (p .number) (step .decision); port = holding port (p .number) (step .queue) })
-unfolding arriveCall arrivalRefusal orElse unlessRefused
-arrives port value s v n = rw (s, v, lt-ltb _ _ n) refl
 
 holding-held : (port : PortState) (last : PacketNumber) (queue : List Packet) → holding port last queue .held ≡ length queue
 unfolding holding
@@ -128,7 +118,7 @@ turn-arrival port value s h = go (valueOk value) refl (ltb (port .last .0) (port
         let fair : Fair (queueOf port) p (pgRule (port .room) (port .beta) (queueOf port) p) =
         rw (pg-at-once (port .room) (port .beta) (queueOf port) p short) (pg-fair (queueOf port) p (port .room) (port .beta)) in
         let fits = roomy-pg (port .room) (port .beta) a (queueOf port) short in
-        subst (Turn _ _ (arrival value)) (sym (arrives port value s v (ltb-true _ _ n)))
+        subst (Turn _ _ (arrival value)) (sym (arrival-taken port value s v (ltb-true _ _ n)))
         (turn-holding port (arrival value) _ (p .number) _ (omega (arith, fits, room-fits (port .room) (S .room-ok)))
         (decides port value fair))
 

@@ -6,3 +6,4 @@ pub mod Audited
 pub mod OwnRecords
 pub mod Ledger
 pub mod PlanFits
+pub mod SoundPort

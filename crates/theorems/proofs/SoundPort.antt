@@ -13,20 +13,21 @@ use Rattle.model.specs.declared.PacketNumber.{PacketNumber}
 use Rattle.model.specs.declared.LossKind.the-variants.{PushedOut, Preempted}
 use Rattle.model.specs.Limits.{portLimits}
 use Rattle.model.specs.Packets.{nobody, valuesOf}
-use Rattle.model.specs.Refusals.{valueOk, roomOk, betaOk}
-use Rattle.model.specs.Policies.PG.{preemptedAt}
-use Rattle.model.specs.Port.{PortState, PortOutcome, queueOf, fresh, holding, all, risesFrom, sound, slotEnd, nextPacket, makeCall, arriveCall}
+use Rattle.model.specs.Refusals.{valueOk, roomOk, betaOk, arrivalRefusal}
+use Rattle.model.specs.Rules.{orElse}
+use Rattle.model.specs.Policies.PG.{preemptedAt, pgRule}
+use Rattle.model.specs.Port.{PortState, PortOutcome, queueOf, fresh, holding, all, risesFrom, sound, slotEnd, saysOf, nextPacket, unlessRefused, makeCall, arriveCall}
 use Rattle.queue.specs.declared.Rule.the-variants.{PG}
 use Rattle.queue.specs.declared.Choice.{Choice}
 use Rattle.queue.specs.declared.Choice.the-variants.{Hold, Reject, Lose}
 use Rattle.queue.specs.Choose.{choose, greedyChoice}
-use Rattle.port.specs.Kept.{MadeSound, ArrivalKeeps, SlotKeeps, NeverUnsound, EmptyHolds}
+use Rattle.theorems.specs.SoundPort.{MadeSound, ArrivalKeeps, SlotKeeps, NeverUnsound, EmptyHolds}
 use Rattle.port.proofs.Padded.{zeros-pass}
 use Rattle.port.proofs.Holding.{front, behind}
 use Rattle.port.proofs.Parts.{Sound, sound-parts, parts-sound, room-some}
 use Rattle.port.proofs.Calls.{making-room, making-beta, making-done, arrival-value, arrival-spent, arrival-done, chosen, slot-done, queue-none}
 use Rattle.port.proofs.Choices.{choice-allowed, Allowed}
 use Rattle.port.proofs.Queues.{Holdable, sound-queue, holdable-without, holdable-applied}
 
 -- a sound port with another queue that it can hold
 holding-sound : (port : PortState) → Sound port → (last : PacketNumber) (queue : List Packet) → Holdable (port .room) (last .0) queue
@@ -132,3 +133,12 @@ empty-holds port value s none ok left =
     ap (λ (q : List Packet). choose (port .room) (PG (port .beta)) (valuesOf q) value) (queue-none port none) ∙ rw (lt-ltb 0 (port .room) room) refl in
     ap (λ (o : PortOutcome). o .reply) (arrival-done port value s ok left)
     ∙ ap (λ (c : Choice). chosen port value (nextPacket port value) c .reply) hold
+
+-- an arrival that is not refused
+pub arrival-taken : (port : PortState) (value : ℕ) → sound port ≡ true → valueOk value ≡ true → port .last .0 < portLimits .number
+    → arriveCall port value
+    ≡ (let p = nextPacket port value in
+    let step = pgRule (port .room) (port .beta) (queueOf port) p in
+    record { reply = saysOf (p .number) (step .decision); port = holding port (p .number) (step .queue) })
+unfolding arriveCall arrivalRefusal orElse unlessRefused
+arrival-taken port value s v n = rw (s, v, lt-ltb _ _ n) refl
