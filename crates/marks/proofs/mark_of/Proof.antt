@@ -7,7 +7,7 @@ number-of-requires : tie.Need-number-of-requires
 number-of-requires c κs = search needs
 
 returns : tie.Need-returns
-returns c = search needs
+returns c = c .number-of .ensures
 
 pub mark-of-spec : {M : Type 1} → statement M
 mark-of-spec = tie.close (tie.spec number-of-requires returns)
