@@ -73,15 +73,28 @@ fn main() -> ExitCode {
         },
         _ => return usage(),
     };
-    match written {
-        Ok(()) => ExitCode::SUCCESS,
-        Err(_) => ExitCode::FAILURE,
+    if was_written(written) {
+        ExitCode::SUCCESS
+    } else {
+        ExitCode::FAILURE
     }
 }
 
+/// Wrong use: status 2.
 fn usage() -> ExitCode {
     let _ = writeln!(io::stderr(), "{USAGE}");
-    ExitCode::FAILURE
+    ExitCode::from(2)
+}
+
+/// Says so where writing failed.
+fn was_written(written: io::Result<()>) -> bool {
+    if let Err(error) = &written {
+        let _ = writeln!(
+            io::stderr(),
+            "second: writing to standard output failed: {error}"
+        );
+    }
+    written.is_ok()
 }
 
 fn write_text(text: &str) -> io::Result<()> {
@@ -140,13 +153,14 @@ fn write_kinds(cases: u64) -> ExitCode {
             missing += 1;
         }
     }
-    if write_text(&text).is_ok() && missing == 0 {
+    if was_written(write_text(&text)) && missing == 0 {
         ExitCode::SUCCESS
     } else {
         ExitCode::FAILURE
     }
 }
 
+/// Fails where a number differs and no mistake was asked for.
 fn check_by_hand(mistake: Option<Mistake>) -> ExitCode {
     let (passed, differing) = mistakes::with(mistake, byhand::run);
     let mut text = String::new();
@@ -154,8 +168,7 @@ fn check_by_hand(mistake: Option<Mistake>) -> ExitCode {
         text += &format!("{line}\n");
     }
     text += &format!("{passed} passed, {} failed\n", differing.len());
-    let written = write_text(&text);
-    if differing.is_empty() && written.is_ok() {
+    if was_written(write_text(&text)) && (differing.is_empty() || mistake.is_some()) {
         ExitCode::SUCCESS
     } else {
         ExitCode::FAILURE
