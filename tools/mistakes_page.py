@@ -42,6 +42,16 @@ def joined(numbers):
     return ",".join(map(str, numbers)) or "-"
 
 
+def answer(right, said):
+    """What the second program's --run said, in the words in which the page says what is right: its first line, or what is looked at in the totals."""
+    first, totals = (said.split("\n") + ["", ""])[:2]
+    if right.startswith("most held ") and totals:
+        return f"most held {totals.split()[-1]}"
+    if right == "accepted, totals 0" and totals.split() == ["0"] * 13:
+        return right
+    return first
+
+
 @dataclasses.dataclass
 class Trace:
     """One trace, the mistake's name, what the mistake gives and what is right."""
