@@ -24,7 +24,7 @@ pub fn count(mistake: Mistake, call: &str, packets: usize) -> Option<(u64, u64)>
 }
 
 /// What `--run` takes, for every trace of n packets.
-fn all_words(call: &str, n: usize) -> Vec<Vec<String>> {
+pub fn all_words(call: &str, n: usize) -> Vec<Vec<String>> {
     let parameters: &[&str] = match call {
         "pg" | "port" => &["3,2", "2,1", "5,2", "3,1"],
         "mf" => &["1,4,0", "1,4,1", "1,4,2", "1,4,3"],

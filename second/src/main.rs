@@ -16,6 +16,7 @@ mod mistakes;
 mod one;
 mod port;
 mod rules;
+mod tried;
 
 use mistakes::Mistake;
 use std::io::{self, BufWriter, Write};
@@ -33,6 +34,11 @@ const USAGE: &str = "usage: second                  a line for each batch of cas
                                small traces of fewer than N packets, and how many go wrong
        second --mistake NAME --check-by-hand
                                which of the scope's numbers that mistake gets wrong
+       second --tried ROOM SLOTS VALUES
+                               the value that greedy, PG with every beta, and the plan send
+       second --tried --fewer N
+                               small traces of fewer than N packets, and on how many of them
+                               the plan sends more than greedy and than PG with any beta
        second --kinds [N]      how often each kind of case comes, of all or of the first N
        second --check-by-hand  the scope's numbers to check by hand";
 
@@ -56,6 +62,16 @@ fn main() -> ExitCode {
         },
         ["--run", ref rest @ ..] => match one::run(rest) {
             Some(text) => write_text(&text),
+            None => return usage(),
+        },
+        ["--tried", "--fewer", n] => match n.parse().ok().and_then(tried::count) {
+            Some((traces, more)) => {
+                write_text(&format!("{traces} traces, the plan sends more on {more}\n"))
+            }
+            None => return usage(),
+        },
+        ["--tried", room, slots, values] => match tried::run(room, slots, values) {
+            Some(tried) => write_tried(&tried),
             None => return usage(),
         },
         ["--mistakes"] => write_mistakes(),
@@ -113,6 +129,14 @@ fn mistaken(name: &str, words: &[&str]) -> Option<String> {
         }
         _ => None,
     }
+}
+
+fn write_tried(tried: &tried::Tried) -> io::Result<()> {
+    let mut text = format!("greedy {}\n", tried.greedy);
+    for (num, den, value) in &tried.pg {
+        text += &format!("pg {num}/{den} {value}\n");
+    }
+    write_text(&(text + &format!("plan {}\n", tried.plan)))
 }
 
 fn write_mistakes() -> io::Result<()> {

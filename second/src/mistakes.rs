@@ -20,6 +20,7 @@ pub enum Mistake {
     StandsStill,
     HeadMark,
     SameSlot,
+    PaperRoom,
     RefusesEverything,
     OneRecord,
     WritesNothing,
@@ -37,7 +38,7 @@ pub enum Mistake {
 use Mistake::*;
 
 /// Every mistake, its name and what it is.
-pub const ALL: [(Mistake, &str, &str); 26] = [
+pub const ALL: [(Mistake, &str, &str); 27] = [
     (
         BetaRounded,
         "beta-rounded",
@@ -107,6 +108,11 @@ pub const ALL: [(Mistake, &str, &str); 26] = [
         SameSlot,
         "same-slot",
         "fault 14 passes a sending at the slot of the last one",
+    ),
+    (
+        PaperRoom,
+        "paper-000-room",
+        "the B of document 000 is passed as room, which is B + 1",
     ),
     (
         RefusesEverything,
@@ -196,6 +202,15 @@ pub fn preempted(held: &[Held], arrival: u64, num: u64, den: u64) -> Option<Opti
             Some(qualify.min_by_key(|&place| held[place].value))
         }
         _ => None,
+    }
+}
+
+/// What the caller passes for a room: document 000's B is one less. A B of 0 is no room, and is refused at once;
+/// there the mistake is not made.
+pub fn passed(room: u64) -> u64 {
+    match made(PaperRoom) && room > 1 {
+        true => room - 1,
+        false => room,
     }
 }
 

@@ -1,5 +1,6 @@
 //! One call on one trace, given in words on the command line.
 
+use crate::mistakes;
 use crate::port::{Arrival, EndOfSlot, Kind, Port};
 use crate::rules::{self, Record, Refusal, Totals, Verdict, PREEMPTED, PUSHED_OUT, REJECTED, SENT};
 
@@ -11,7 +12,7 @@ pub fn run(words: &[&str]) -> Option<String> {
     let [call, room, parameters, slots, values, record @ ..] = words else {
         return None;
     };
-    let room = room.parse().ok()?;
+    let room = mistakes::passed(room.parse().ok()?);
     let parameters = numbers(parameters)?;
     let (slots, values) = (numbers(slots)?, numbers(values)?);
     let n = slots.len();
@@ -95,7 +96,7 @@ fn ended(port: Port, slot: u64, record: &mut Record) -> Result<(Port, bool), Ref
     Ok((port, false))
 }
 
-fn numbers(word: &str) -> Option<Vec<u64>> {
+pub fn numbers(word: &str) -> Option<Vec<u64>> {
     if word == "-" {
         return Some(Vec::new());
     }
