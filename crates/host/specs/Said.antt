@@ -1,4 +1,4 @@
--- What a call on a trace says through the door: one number, the three lists of the record, and a list of totals.
+-- What a call on a trace answers to the benchmark: one number, the three lists of the record, and a list of totals.
 use Prim.Native.Nat.{ℕ, _+_, _*_, _^_}
 use mathlib.Core.Path.{_≡_}
 use mathlib.Core.Bool.{Bool, cond, _||_}

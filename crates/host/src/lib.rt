@@ -1,4 +1,4 @@
-// The benchmark's door to the proved calls: the runs, the audit and a live port, on numbers and slices, for a Rust program to link.
+// The proved calls for the benchmark, a Rust program, to link: the runs, the audit and a live port, on numbers and slices.
 mod live;
 mod said;
 
