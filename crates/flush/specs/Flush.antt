@@ -1,6 +1,7 @@
 -- What a flush and the end of a slot do under MF.
 use Prim.Native.Nat.{ℕ, zero, suc}
 use mathlib.Core.Path.{_≡_}
+use denote.Ref.{now}
 use mathlib.Core.Bool.{cond}
 use mathlib.Core.List.{List, [], _∷_}
 use Rattle.model.specs.declared.PacketNumber.{PacketNumber}
@@ -13,7 +14,8 @@ use Rattle.model.specs.Policies.MF.{Marking, Marked, marksAfter, headMark, flus
 use Rattle.steps.specs.declared.Window.{Window}
 use Rattle.steps.specs.Window.{Within, windowOf}
 use Rattle.steps.specs.Guarded.{liesWithin}
-use Rattle.steps.specs.Lent.{Lent, queueIn, placed, leaving}
+use Rattle.steps.specs.Step.{Stepped}
+use Rattle.steps.specs.Lent.{Lent, LentList, lentBefore, lentAfter, listsBefore, listsAfter, Moved, queueIn, placed, leaving}
 use Rattle.marks.specs.Mark.{beside}
 
 -- the flush under a head with mark m
@@ -69,3 +71,46 @@ endingIn room M slots now until l marks lists =
     cond (liesWithin (l .window) (l .numbers) (l .values))
     (movedMF (endsIn room M slots (slotsUntil now until) now s l) (step .next .marks) (entered (step .entries) lists))
     (movedMF l marks lists)
+
+-- all of these before a call, and after it
+abbrev pub mfFrom : Window → LentList → LentList → LentList → LentList → LentList → LentList → MovedMF
+mfFrom w numbers values marks fates whens bys =
+    movedMF (lentBefore w numbers values) (now (marks .entry)) (listsBefore fates whens bys)
+
+abbrev pub mfTo : Window → LentList → LentList → LentList → LentList → LentList → LentList → MovedMF
+mfTo w numbers values marks fates whens bys = movedMF (lentAfter w numbers values) (now (marks .exit)) (listsAfter fates whens bys)
+
+-- a step on all of these
+abbrev pub onMF : (Lent → List ℕ → Lists → MovedMF) → MovedMF → MovedMF
+onMF step m = step (m .lent) (m .marks) (m .written)
+
+-- the oldest packet, if any, is sent, and the window's end stays
+abbrev pub Sends : Slot → Moved → Moved → Type 0
+Sends now m n =
+    let l = m .lent in
+    Stepped (sendOldest now (queueIn l)) (m .written) (n .lent .window) (l .numbers) (l .values) (n .written)
+    × (n .lent .window .tail ≡ l .window .tail)
+
+-- the flush under a head with mark m is done: what it leaves stands from the window's start on
+abbrev pub Flushes : Slot → PacketNumber → List ℕ → Moved → Moved → Type 0
+Flushes now mark marks m n =
+    let l = m .lent in
+    let after = n .lent in
+    Stepped (flushing now mark marks (queueIn l)) (m .written) (after .window) (after .numbers) (after .values) (n .written)
+    × (after ≡ placed (l .window .head) (unflushed mark marks (queueIn l)) l)
+
+-- a step under MF is done, and this is what it leaves of the window and its lists
+abbrev pub FinishedIn : (Marked → Step Marked) → (Marked → Lent → Lent) → MovedMF → MovedMF → Type 0
+FinishedIn step leaves m n =
+    let s = beside (queueIn (m .lent)) (m .marks) in
+    let after = n .lent in
+    Finished (step s) (m .written) (after .window) (after .numbers) (after .values) (n .marks) (n .written)
+    × (after ≡ leaves s (m .lent))
+
+-- the end of a slot, and the ends of the slots before the next arrival
+abbrev pub EndedIn : ℕ → Marking → List ℕ → Slot → MovedMF → MovedMF → Type 0
+EndedIn room M slots now = FinishedIn (finishing room M slots now) (endIn room M slots now)
+
+abbrev pub EndsIn : ℕ → Marking → List ℕ → Slot → Slot → MovedMF → MovedMF → Type 0
+EndsIn room M slots from until =
+    FinishedIn (ending room M slots from until) (endsIn room M slots (slotsUntil from until) from)

@@ -1,14 +1,8 @@
 // The ends of slots under MF, on a window that lies within its lists.
-ghost use mathlib.Core.Path.{_≡_};
-ghost use Rattle.model.specs.Packets.{slotsUntil};
-ghost use Rattle.model.specs.Course.{sendOldest};
 ghost use Rattle.trace.specs.Checked.{markingOf};
-ghost use Rattle.entry.specs.Entry.{lists};
-ghost use Rattle.steps.specs.Window.{windowOf, Within};
-ghost use Rattle.steps.specs.Step.{Stepped};
-ghost use Rattle.steps.specs.Lent.{lent};
-ghost use Rattle.marks.specs.Mark.{beside};
-ghost use Rattle.flush.specs.Flush.{Finished, finishing, ending, endIn, endsIn};
+ghost use Rattle.steps.specs.Window.{Within};
+ghost use Rattle.steps.specs.Lent.{lentBefore, listsAfter, moved, movedFrom};
+ghost use Rattle.flush.specs.Flush.{mfFrom, mfTo, Sends, EndedIn, EndsIn};
 use crate::sift::flush;
 use crate::sift::head_mark;
 use entry::enter;
@@ -31,7 +25,7 @@ fn send(
     slot: Slot,
 ) -> Window
     requires { ⌜ Within w (now numbers) (now values) ⌝ }
-    ensures { λ v. ⌜ Stepped (sendOldest slot (windowOf w (now (numbers .entry)) (now (values .entry)))) (lists (now (fates .entry)) (now (whens .entry)) (now (bys .entry))) v (now (numbers .entry)) (now (values .entry)) (lists (now (fates .exit)) (now (whens .exit)) (now (bys .exit))) × (v .tail ≡ w .tail) ⌝ }
+    ensures { λ v. ⌜ Sends slot (movedFrom w numbers values fates whens bys) (moved (lentBefore v numbers values) (listsAfter fates whens bys)) ⌝ }
 {
     let head = w.head;
     let tail = w.tail;
@@ -70,7 +64,7 @@ fn end_slot(
     slot: Slot,
 ) -> Window
     requires { ⌜ Within w (now numbers) (now values) ⌝ }
-    ensures { λ v. ⌜ Finished (finishing room (markingOf lo hi r) (now (slots .entry)) slot (beside (windowOf w (now (numbers .entry)) (now (values .entry))) (now (marks .entry)))) (lists (now (fates .entry)) (now (whens .entry)) (now (bys .entry))) v (now (numbers .exit)) (now (values .exit)) (now (marks .exit)) (lists (now (fates .exit)) (now (whens .exit)) (now (bys .exit))) × (lent v (now (numbers .exit)) (now (values .exit)) ≡ endIn room (markingOf lo hi r) (now (slots .entry)) slot (beside (windowOf w (now (numbers .entry)) (now (values .entry))) (now (marks .entry))) (lent w (now (numbers .entry)) (now (values .entry)))) ⌝ }
+    ensures { λ v. ⌜ EndedIn room (markingOf lo hi r) (now (slots .entry)) slot (mfFrom w numbers values marks fates whens bys) (mfTo v numbers values marks fates whens bys) ⌝ }
 {
     mark(numbers, values, slots, marks, w, room, lo, hi, r, slot);
     let m = head_mark(numbers, values, marks, w);
@@ -96,7 +90,7 @@ pub fn end_slots(
     until: Slot,
 ) -> Window
     requires { ⌜ Within w (now numbers) (now values) ⌝ }
-    ensures { λ v. ⌜ Finished (ending room (markingOf lo hi r) (now (slots .entry)) from until (beside (windowOf w (now (numbers .entry)) (now (values .entry))) (now (marks .entry)))) (lists (now (fates .entry)) (now (whens .entry)) (now (bys .entry))) v (now (numbers .exit)) (now (values .exit)) (now (marks .exit)) (lists (now (fates .exit)) (now (whens .exit)) (now (bys .exit))) × (lent v (now (numbers .exit)) (now (values .exit)) ≡ endsIn room (markingOf lo hi r) (now (slots .entry)) (slotsUntil from until) from (beside (windowOf w (now (numbers .entry)) (now (values .entry))) (now (marks .entry))) (lent w (now (numbers .entry)) (now (values .entry)))) ⌝ }
+    ensures { λ v. ⌜ EndsIn room (markingOf lo hi r) (now (slots .entry)) from until (mfFrom w numbers values marks fates whens bys) (mfTo v numbers values marks fates whens bys) ⌝ }
 {
     let mut head = w.head;
     let mut tail = w.tail;

@@ -1,9 +1,7 @@
 // The ends of slots under MF: the slot's hi packets mark, the head's mark flushes, and the head is sent.
 ghost use mathlib.Core.Path.{_≡_};
 ghost use Rattle.trace.specs.Checked.{markingOf};
-ghost use Rattle.entry.specs.Entry.{lists};
-ghost use Rattle.steps.specs.Lent.{lent};
-ghost use Rattle.flush.specs.Flush.{movedMF, endingIn};
+ghost use Rattle.flush.specs.Flush.{mfFrom, mfTo, onMF, endingIn};
 use model::Slot;
 use steps::Window;
 use steps::moves::lies_within;
@@ -28,7 +26,7 @@ pub fn end_slots(
     from: Slot,
     until: Slot,
 ) -> Window
-    ensures { λ v. ⌜ movedMF (lent v (now (numbers .exit)) (now (values .exit))) (now (marks .exit)) (lists (now (fates .exit)) (now (whens .exit)) (now (bys .exit))) ≡ endingIn room (markingOf lo hi r) (now (slots .entry)) from until (lent w (now (numbers .entry)) (now (values .entry))) (now (marks .entry)) (lists (now (fates .entry)) (now (whens .entry)) (now (bys .entry))) ⌝ }
+    ensures { λ v. ⌜ mfTo v numbers values marks fates whens bys ≡ onMF (endingIn room (markingOf lo hi r) (now (slots .entry)) from until) (mfFrom w numbers values marks fates whens bys) ⌝ }
 {
     if !lies_within(numbers, values, w) {
         return w;

@@ -2,12 +2,10 @@
 ghost use mathlib.Core.Path.{_≡_};
 ghost use mathlib.Core.Bool.{not, _&&_};
 ghost use lib.Dec.{eqb, leb};
-ghost use Rattle.model.specs.Policies.MF.{headMark, unflushed};
-ghost use Rattle.entry.specs.Entry.{lists};
+ghost use Rattle.model.specs.Policies.MF.{headMark};
 ghost use Rattle.steps.specs.Window.{windowOf, Within};
-ghost use Rattle.steps.specs.Step.{Stepped};
-ghost use Rattle.steps.specs.Lent.{lent, placed};
-ghost use Rattle.flush.specs.Flush.{flushing};
+ghost use Rattle.steps.specs.Lent.{movedFrom, movedTo};
+ghost use Rattle.flush.specs.Flush.{Flushes};
 use entry::enter;
 use marks::mark_of;
 use model::Fate;
@@ -58,7 +56,7 @@ fn sift(
     slot: Slot,
 ) -> Window
     requires { ⌜ Within w (now numbers) (now values) ⌝ }
-    ensures { λ r. ⌜ Stepped (flushing slot m (now (marks .entry)) (windowOf w (now (numbers .entry)) (now (values .entry)))) (lists (now (fates .entry)) (now (whens .entry)) (now (bys .entry))) r (now (numbers .exit)) (now (values .exit)) (lists (now (fates .exit)) (now (whens .exit)) (now (bys .exit))) × (lent r (now (numbers .exit)) (now (values .exit)) ≡ placed (w .head) (unflushed m (now (marks .entry)) (windowOf w (now (numbers .entry)) (now (values .entry)))) (lent w (now (numbers .entry)) (now (values .entry)))) ⌝ }
+    ensures { λ r. ⌜ Flushes slot m (now (marks .entry)) (movedFrom w numbers values fates whens bys) (movedTo r numbers values fates whens bys) ⌝ }
 {
     let head = w.head;
     let tail = w.tail;
@@ -95,7 +93,7 @@ pub fn flush(
     slot: Slot,
 ) -> Window
     requires { ⌜ Within w (now numbers) (now values) ⌝ }
-    ensures { λ r. ⌜ Stepped (flushing slot m (now (marks .entry)) (windowOf w (now (numbers .entry)) (now (values .entry)))) (lists (now (fates .entry)) (now (whens .entry)) (now (bys .entry))) r (now (numbers .exit)) (now (values .exit)) (lists (now (fates .exit)) (now (whens .exit)) (now (bys .exit))) × (lent r (now (numbers .exit)) (now (values .exit)) ≡ placed (w .head) (unflushed m (now (marks .entry)) (windowOf w (now (numbers .entry)) (now (values .entry)))) (lent w (now (numbers .entry)) (now (values .entry)))) ⌝ }
+    ensures { λ r. ⌜ Flushes slot m (now (marks .entry)) (movedFrom w numbers values fates whens bys) (movedTo r numbers values fates whens bys) ⌝ }
 {
     if m.0 == 0 {
         return w;

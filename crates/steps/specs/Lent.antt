@@ -1,5 +1,8 @@
 -- A window of two lent lists, to the last entry, and what each move leaves of it and of the record's lists.
-use Prim.Native.Nat.{ℕ, _+_, _-_}
+use Prim.Native.Nat.{ℕ, _+_, _-_, _<_}
+use mathlib.Core.Path.{_≡_}
+use denote.Ref.{RefT, now}
+use denote.Triple.Both.{Both}
 use mathlib.Core.Bool.{cond}
 use mathlib.Core.List.{List, [], _∷_, _++_, map}
 use lib.ListN.{length}
@@ -9,11 +12,12 @@ use Rattle.model.specs.declared.Packet.{Packet}
 use Rattle.model.specs.declared.Slot.{Slot}
 use Rattle.model.specs.Packets.{Arrival, valuesOf}
 use Rattle.model.specs.Record.{Lists, entered}
-use Rattle.model.specs.Course.{Decision, held, rejected, losing, Decided, entriesOf}
+use Rattle.model.specs.Policies.Greedy.{without}
+use Rattle.model.specs.Course.{Decision, held, rejected, losing, Decided, Step, entriesOf}
 use Rattle.steps.specs.declared.Window.{Window}
 use Rattle.steps.specs.Window.{windowOf}
 use Rattle.steps.specs.Guarded.{liesWithin, hasPlace}
-use Rattle.steps.specs.Step.{sending}
+use Rattle.steps.specs.Step.{sending, Stepped}
 
 -- a window and its two lists
 pub record Lent : Type 0 where
@@ -23,6 +27,24 @@ pub record Lent : Type 0 where
 
 abbrev pub lent : Window → List ℕ → List ℕ → Lent
 lent w numbers values = record { window = w; numbers = numbers; values = values }
+
+-- a list that is lent to a call, as it was and as it is left
+abbrev pub LentList : Type 0
+LentList = Both (RefT (List ℕ)) (RefT (List ℕ))
+
+-- a window and its two lists before a call, and after it
+abbrev pub lentBefore : Window → LentList → LentList → Lent
+lentBefore w numbers values = lent w (now (numbers .entry)) (now (values .entry))
+
+abbrev pub lentAfter : Window → LentList → LentList → Lent
+lentAfter w numbers values = lent w (now (numbers .exit)) (now (values .exit))
+
+-- the record's three lists before a call, and after it
+abbrev pub listsBefore : LentList → LentList → LentList → Lists
+listsBefore fates whens bys = record { fates = now (fates .entry); whens = now (whens .entry); bys = now (bys .entry) }
+
+abbrev pub listsAfter : LentList → LentList → LentList → Lists
+listsAfter fates whens bys = record { fates = now (fates .exit); whens = now (whens .exit); bys = now (bys .exit) }
 
 -- the packets of the window, oldest first
 abbrev pub queueIn : Lent → List Packet
@@ -41,6 +63,17 @@ placed place queue l =
 abbrev pub openPlace : Lent → ℕ
 openPlace l = cond (ltb (l .window .tail) (length (l .values))) (l .window .head) 0
 
+-- a queue with a free place behind it
+abbrev pub Opened : Lent → Lent → Type 0
+Opened l m = (m ≡ placed (openPlace l) (queueIn l) l) × (m .window .tail < length (m .values))
+
+-- a packet held behind the others, and the packet at a place lost
+abbrev pub heldIn : Packet → Lent → Lent
+heldIn p l = placed (openPlace l) (queueIn l ++ p ∷ []) l
+
+abbrev pub lostIn : ℕ → Lent → Lent
+lostIn place l = placed (l .window .head) (without place (queueIn l)) l
+
 -- a packet is held behind the others; where no place is free all is as before
 unfoldable pub holding : Packet → Lent → Lent
 holding p l = cond (hasPlace (l .window) (l .numbers) (l .values)) (placed (openPlace l) (queueIn l ++ p ∷ []) l) l
@@ -53,6 +86,17 @@ pub record Moved : Type 0 where
 abbrev pub moved : Lent → Lists → Moved
 moved l lists = record { lent = l; written = lists }
 
+-- both before a call, and after it
+abbrev pub movedFrom : Window → LentList → LentList → LentList → LentList → LentList → Moved
+movedFrom w numbers values fates whens bys = moved (lentBefore w numbers values) (listsBefore fates whens bys)
+
+abbrev pub movedTo : Window → LentList → LentList → LentList → LentList → LentList → Moved
+movedTo w numbers values fates whens bys = moved (lentAfter w numbers values) (listsAfter fates whens bys)
+
+-- a step on both
+abbrev pub on : (Lent → Lists → Moved) → Moved → Moved
+on step m = step (m .lent) (m .written)
+
 -- where the queue stands after a decision: the arrival needs a place behind the others only where it is held and none is lost
 abbrev pub decidedPlace : Decision → Lent → ℕ
 decidedPlace held l = openPlace l
@@ -62,6 +106,10 @@ decidedPlace (losing loss) l = l .window .head
 -- what a decision on an arrival leaves: the queue after it, and its entry written
 abbrev pub deciding : Arrival → Decided → Lent → Lists → Moved
 deciding a d l lists = moved (placed (decidedPlace (d .decision) l) (d .queue) l) (entered (entriesOf a (d .decision)) lists)
+
+-- and what a rule's decision leaves
+abbrev pub decidingBy : (List Packet → Packet → Decided) → Arrival → Lent → Lists → Moved
+decidingBy rule a l lists = deciding a (rule (queueIn l) (a .packet)) l lists
 
 -- an arrival under a rule; where no place is free all is as before
 unfoldable pub arrivingIn : (List Packet → Packet → Decided) → Arrival → Lent → Lists → Moved
@@ -77,3 +125,10 @@ unfoldable pub sendingIn : Slot → Slot → Lent → Lists → Moved
 sendingIn now until l lists =
     let step = sending now until (queueIn l) in
     cond (liesWithin (l .window) (l .numbers) (l .values)) (moved (leaving (step .next) l) (entered (step .entries) lists)) (moved l lists)
+
+-- sendings are done: the window's end stays, and it holds the queue after them
+abbrev pub SentIn : (List Packet → Step (List Packet)) → Moved → Moved → Type 0
+SentIn sends m n =
+    let l = m .lent in
+    (n .lent .window .tail ≡ l .window .tail)
+    × Stepped (sends (queueIn l)) (m .written) (n .lent .window) (l .numbers) (l .values) (n .written)

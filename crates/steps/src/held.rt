@@ -1,11 +1,9 @@
 // What is done to a window that lies within its two lists.
 ghost use mathlib.Core.Path.{_≡_};
-ghost use mathlib.Core.List.{[], _∷_, _++_};
 ghost use Prim.Native.Nat.{_+_, _-_, _<_};
 ghost use lib.ListN.{length};
-ghost use Rattle.model.specs.Policies.Greedy.{without};
 ghost use Rattle.steps.specs.Window.{windowOf, Within, oldestOf};
-ghost use Rattle.steps.specs.Lent.{lent, placed, openPlace};
+ghost use Rattle.steps.specs.Lent.{lentBefore, lentAfter, Opened, heldIn, lostIn};
 use crate::Window;
 use model::Packet;
 use model::PacketNumber;
@@ -16,7 +14,7 @@ use queue::slide;
 fn freed(numbers: &mut [u32], values: &mut [u32], w: Window) -> Window
     requires { ⌜ Within w (now numbers) (now values) ⌝ }
     requires { ⌜ w .tail - w .head < length (now values) ⌝ }
-    ensures { λ r. ⌜ (lent r (now (numbers .exit)) (now (values .exit)) ≡ placed (openPlace (lent w (now (numbers .entry)) (now (values .entry)))) (windowOf w (now (numbers .entry)) (now (values .entry))) (lent w (now (numbers .entry)) (now (values .entry)))) × (r .tail < length (now (values .exit))) ⌝ }
+    ensures { λ r. ⌜ Opened (lentBefore w numbers values) (lentAfter r numbers values) ⌝ }
 {
     let head = w.head;
     let tail = w.tail;
@@ -35,7 +33,7 @@ fn freed(numbers: &mut [u32], values: &mut [u32], w: Window) -> Window
 pub fn hold(numbers: &mut [u32], values: &mut [u32], w: Window, p: Packet) -> Window
     requires { ⌜ Within w (now numbers) (now values) ⌝ }
     requires { ⌜ w .tail - w .head < length (now values) ⌝ }
-    ensures { λ r. ⌜ lent r (now (numbers .exit)) (now (values .exit)) ≡ placed (openPlace (lent w (now (numbers .entry)) (now (values .entry)))) (windowOf w (now (numbers .entry)) (now (values .entry)) ++ p ∷ []) (lent w (now (numbers .entry)) (now (values .entry))) ⌝ }
+    ensures { λ r. ⌜ lentAfter r numbers values ≡ heldIn p (lentBefore w numbers values) ⌝ }
 {
     let o = freed(numbers, values, w);
     let head = o.head;
@@ -52,7 +50,7 @@ pub fn hold(numbers: &mut [u32], values: &mut [u32], w: Window, p: Packet) -> Wi
 pub fn lose(numbers: &mut [u32], values: &mut [u32], w: Window, place: usize) -> Window
     requires { ⌜ Within w (now numbers) (now values) ⌝ }
     requires { ⌜ w .head + place < w .tail ⌝ }
-    ensures { λ r. ⌜ lent r (now (numbers .exit)) (now (values .exit)) ≡ placed (w .head) (without place (windowOf w (now (numbers .entry)) (now (values .entry)))) (lent w (now (numbers .entry)) (now (values .entry))) ⌝ }
+    ensures { λ r. ⌜ lentAfter r numbers values ≡ lostIn place (lentBefore w numbers values) ⌝ }
 {
     let at = w.head + place;
     let tail = w.tail;

@@ -3,11 +3,10 @@
 ghost use mathlib.Core.Path.{_≡_};
 ghost use mathlib.Core.List.{[]};
 ghost use Rattle.queue.specs.Choose.{ruleOf};
-ghost use Rattle.entry.specs.Entry.{lists};
 ghost use Rattle.steps.specs.Window.{windowOf, Oldest};
 ghost use Rattle.steps.specs.Step.{arrival};
 ghost use Rattle.steps.specs.Guarded.{Guarded, liesWithin, hasPlace};
-ghost use Rattle.steps.specs.Lent.{lent, holding, moved, arrivingIn, sendingIn};
+ghost use Rattle.steps.specs.Lent.{lentBefore, lentAfter, listsAfter, holding, moved, movedFrom, movedTo, on, arrivingIn, sendingIn};
 use crate::Window;
 use crate::held;
 use crate::step;
@@ -50,7 +49,7 @@ pub fn oldest(numbers: &[u32], values: &[u32], w: Window) -> SlotAnswer
 
 // Holds a packet.
 pub fn hold(numbers: &mut [u32], values: &mut [u32], w: Window, p: Packet) -> Window
-    ensures { λ r. ⌜ lent r (now (numbers .exit)) (now (values .exit)) ≡ holding p (lent w (now (numbers .entry)) (now (values .entry))) ⌝ }
+    ensures { λ r. ⌜ lentAfter r numbers values ≡ holding p (lentBefore w numbers values) ⌝ }
 {
     if !has_place(numbers, values, w) {
         return w;
@@ -69,7 +68,7 @@ pub fn send_until(
     from: Slot,
     until: Slot,
 ) -> Window
-    ensures { λ r. ⌜ moved (lent r (now (numbers .entry)) (now (values .entry))) (lists (now (fates .exit)) (now (whens .exit)) (now (bys .exit))) ≡ sendingIn from until (lent w (now (numbers .entry)) (now (values .entry))) (lists (now (fates .entry)) (now (whens .entry)) (now (bys .entry))) ⌝ }
+    ensures { λ r. ⌜ moved (lentBefore r numbers values) (listsAfter fates whens bys) ≡ on (sendingIn from until) (movedFrom w numbers values fates whens bys) ⌝ }
 {
     if !lies_within(numbers, values, w) {
         return w;
@@ -90,7 +89,7 @@ pub fn arrive(
     slot: Slot,
     p: Packet,
 ) -> Window
-    ensures { λ r. ⌜ moved (lent r (now (numbers .exit)) (now (values .exit))) (lists (now (fates .exit)) (now (whens .exit)) (now (bys .exit))) ≡ arrivingIn (ruleOf room rule) (arrival slot p) (lent w (now (numbers .entry)) (now (values .entry))) (lists (now (fates .entry)) (now (whens .entry)) (now (bys .entry))) ⌝ }
+    ensures { λ r. ⌜ movedTo r numbers values fates whens bys ≡ on (arrivingIn (ruleOf room rule) (arrival slot p)) (movedFrom w numbers values fates whens bys) ⌝ }
 {
     if !has_place(numbers, values, w) {
         return w;

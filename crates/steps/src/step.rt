@@ -3,10 +3,9 @@ ghost use mathlib.Core.Path.{_≡_};
 ghost use Prim.Native.Nat.{_+_, _-_, _<_};
 ghost use lib.ListN.{length};
 ghost use Rattle.queue.specs.Choose.{ruleOf, applied};
-ghost use Rattle.entry.specs.Entry.{lists};
-ghost use Rattle.steps.specs.Window.{windowOf, Within};
-ghost use Rattle.steps.specs.Step.{Stepped, arrival, sending};
-ghost use Rattle.steps.specs.Lent.{lent, moved, deciding};
+ghost use Rattle.steps.specs.Window.{Within};
+ghost use Rattle.steps.specs.Step.{arrival, sending};
+ghost use Rattle.steps.specs.Lent.{lentBefore, listsAfter, moved, movedFrom, movedTo, on, decidingBy, SentIn};
 use crate::Window;
 use crate::held::hold;
 use crate::held::lose;
@@ -34,7 +33,7 @@ pub fn send_until(
     until: Slot,
 ) -> Window
     requires { ⌜ Within w (now numbers) (now values) ⌝ }
-    ensures { λ r. ⌜ (r .tail ≡ w .tail) × Stepped (sending from until (windowOf w (now (numbers .entry)) (now (values .entry)))) (lists (now (fates .entry)) (now (whens .entry)) (now (bys .entry))) r (now (numbers .entry)) (now (values .entry)) (lists (now (fates .exit)) (now (whens .exit)) (now (bys .exit))) ⌝ }
+    ensures { λ r. ⌜ SentIn (sending from until) (movedFrom w numbers values fates whens bys) (moved (lentBefore r numbers values) (listsAfter fates whens bys)) ⌝ }
 {
     let mut head = w.head;
     let tail = w.tail;
@@ -73,7 +72,7 @@ fn replace(
 ) -> Window
     requires { ⌜ Within w (now numbers) (now values) ⌝ }
     requires { ⌜ w .head + place < w .tail ⌝ }
-    ensures { λ r. ⌜ moved (lent r (now (numbers .exit)) (now (values .exit))) (lists (now (fates .exit)) (now (whens .exit)) (now (bys .exit))) ≡ deciding (arrival slot p) (applied (Choice.Lose place kind) (windowOf w (now (numbers .entry)) (now (values .entry))) p) (lent w (now (numbers .entry)) (now (values .entry))) (lists (now (fates .entry)) (now (whens .entry)) (now (bys .entry))) ⌝ }
+    ensures { λ r. ⌜ movedTo r numbers values fates whens bys ≡ on (decidingBy (applied (Choice.Lose place kind)) (arrival slot p)) (movedFrom w numbers values fates whens bys) ⌝ }
 {
     let at = w.head + place;
     let lost = PacketNumber(numbers[at]);
@@ -97,7 +96,7 @@ pub fn arrive(
 ) -> Window
     requires { ⌜ Within w (now numbers) (now values) ⌝ }
     requires { ⌜ w .tail - w .head < length (now values) ⌝ }
-    ensures { λ r. ⌜ moved (lent r (now (numbers .exit)) (now (values .exit))) (lists (now (fates .exit)) (now (whens .exit)) (now (bys .exit))) ≡ deciding (arrival slot p) (ruleOf room rule (windowOf w (now (numbers .entry)) (now (values .entry))) p) (lent w (now (numbers .entry)) (now (values .entry))) (lists (now (fates .entry)) (now (whens .entry)) (now (bys .entry))) ⌝ }
+    ensures { λ r. ⌜ movedTo r numbers values fates whens bys ≡ on (decidingBy (ruleOf room rule) (arrival slot p)) (movedFrom w numbers values fates whens bys) ⌝ }
 {
     let head = w.head;
     let tail = w.tail;
