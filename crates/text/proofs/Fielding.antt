@@ -13,7 +13,8 @@ use borrow.Author.Tests.{ltb-true, ltb-false, leb-true, leb-false, eqb-true, eqb
 use Rattle.model.specs.Limits.{within}
 use Rattle.laws.proofs.Cases.{eqb-cases, cond-cases}
 use Rattle.checks.proofs.Tests.{within-to}
-use Rattle.text.specs.Fields.{quote, same, allDigits, valueFrom, Closed as Closing, «open», closed, behind, upToQuote, insideOr, heldIn}
+use Rattle.signs.specs.Signs.{quote}
+use Rattle.text.specs.Fields.{same, allDigits, valueFrom, Closed as Closing, «open», closed, behind, upToQuote, insideOr, heldIn}
 use Rattle.text.specs.declared.field.Stage.{Stage}
 use Rattle.text.specs.declared.field.Stage.the-variants.{Fresh, Bare, Open, Closed, Bad}
 use Rattle.text.specs.declared.field.Kind.{Kind}

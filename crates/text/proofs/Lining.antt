@@ -10,7 +10,8 @@ use lib.ListN.{length}
 use borrow.Author.Tests.{lt-leb, ne-eqb}
 use Rattle.model.specs.Limits.{within}
 use Rattle.laws.proofs.Cases.{eqb-cases}
-use Rattle.text.specs.Fields.{comma, same, allDigits, valueFrom, isNumber, slotName, valueName, heldIn, Parted, none, parted, before, atComma, Line, bad, header, packet, lineBy, fieldsOf, lineOf}
+use Rattle.signs.specs.Signs.{comma}
+use Rattle.text.specs.Fields.{same, allDigits, valueFrom, isNumber, slotName, valueName, heldIn, Parted, none, parted, before, atComma, Line, bad, header, packet, lineBy, fieldsOf, lineOf}
 use Rattle.text.specs.declared.field.Kind.{Kind}
 use Rattle.text.specs.declared.field.Kind.the-variants.{Neither, Name, Number}
 use Rattle.text.specs.declared.field.Field.{Field}

@@ -18,7 +18,8 @@ use Rattle.model.specs.Refusals.{pgRefusal}
 use Rattle.model.specs.Rules.{orElse}
 use Rattle.laws.proofs.Cases.{eqb-cases, cond-cases}
 use Rattle.text.specs.Lines as lines
-use Rattle.text.specs.Lines.{cr, lf, unlessEmpty, linesOf}
+use Rattle.signs.specs.Signs.{cr, lf}
+use Rattle.text.specs.Lines.{unlessEmpty, linesOf}
 use Rattle.text.specs.Fields.{Line, bad, header, packet, lineOf, valueName}
 use Rattle.text.specs.Input.{Input, malformed, trace, withPacket, packetsFrom, inputBy, inputOf}
 use Rattle.text.specs.Output.{refusalText}

@@ -13,8 +13,7 @@ use Rattle.laws.proofs.Cases.{cond-cases}
 use Rattle.model.specs.Packets.{arrivalsFrom}
 use Rattle.model.specs.Record.{rowsOf}
 use Rattle.text.specs.Output.{digitsFrom, decimal, lineWith, rowLines}
-use Rattle.text.specs.Lines.{cr, lf}
-use Rattle.text.specs.Fields.{comma}
+use Rattle.signs.specs.Signs.{cr, lf, comma}
 use Rattle.text.specs.Writing.{Wrote, SameLengths}
 
 sets-append : (out : List ℕ) (at : ℕ) (first more : List ℕ) → sets out at (first ++ more) ≡ sets (sets out at first) (at + length first) more

@@ -5,13 +5,8 @@ use mathlib.Core.Bool.{Bool, true, false, cond, _&&_}
 use mathlib.Core.List.{List, [], _∷_}
 use lib.ListN.{length}
 use lib.Dec.{eqb}
+use Rattle.signs.specs.Signs.{comma, quote}
 use Rattle.model.specs.Limits.{within}
-
-abbrev pub comma : ℕ
-comma = 44
-
-abbrev pub quote : ℕ
-quote = 34
 
 -- two lists of bytes are the same
 unfoldable pub same : List ℕ → List ℕ → Bool

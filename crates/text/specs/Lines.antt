@@ -1,14 +1,9 @@
--- Lines end at each CRLF, inside quotes too; the last line's end is optional. A byte is its number.
+-- Lines end at each CRLF, inside quotes too; the last line's end is optional.
 use Prim.Native.Nat.{ℕ}
 use mathlib.Core.Bool.{cond, _&&_}
 use mathlib.Core.List.{List, [], _∷_}
 use lib.Dec.{eqb}
-
-abbrev pub cr : ℕ
-cr = 13
-
-abbrev pub lf : ℕ
-lf = 10
+use Rattle.signs.specs.Signs.{cr, lf}
 
 -- one byte more at the start of the first line
 abbrev pub inFirst : ℕ → List (List ℕ) → List (List ℕ)

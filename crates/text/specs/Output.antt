@@ -4,8 +4,7 @@ use mathlib.Core.Bool.{cond}
 use mathlib.Core.List.{List, [], _∷_, _++_}
 use lib.Dec.{ltb}
 use Rattle.model.specs.Record.{Row}
-use Rattle.text.specs.Lines.{cr, lf}
-use Rattle.text.specs.Fields.{comma}
+use Rattle.signs.specs.Signs.{cr, lf, comma}
 
 -- a number of at most twenty digits in decimal, without leading zeros
 unfoldable pub digitsFrom : ℕ → ℕ → List ℕ

@@ -6,8 +6,8 @@ use mathlib.Core.List.{List, [], _∷_}
 use lib.ListN.{length, getD, set}
 use lib.Dec.{leb, ltb, eqb}
 use Rattle.model.specs.Limits.{recordLimits, within}
-use Rattle.text.specs.Lines.{cr, lf}
-use Rattle.text.specs.Fields.{comma, quote, slotName, valueName}
+use Rattle.signs.specs.Signs.{cr, lf, comma, quote}
+use Rattle.text.specs.Fields.{slotName, valueName}
 use Rattle.text.specs.declared.field.Stage.{Stage}
 use Rattle.text.specs.declared.field.Stage.the-variants.{Fresh, Bare, Open, Closed, Bad}
 use Rattle.text.specs.declared.field.Kind.{Kind}

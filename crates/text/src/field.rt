@@ -2,9 +2,9 @@
 ghost use mathlib.Core.Path.{_≡_};
 ghost use Prim.Native.Nat.{_≤_};
 ghost use Rattle.text.specs.Reading.{freshField, badField, staged, digitTaken, letterTaken, taken, fieldAfter, wholeKind, kindAt};
-use crate::code::NINE;
-use crate::code::QUOTE;
-use crate::code::ZERO;
+use signs::NINE;
+use signs::QUOTE;
+use signs::ZERO;
 
 // The most digits of a number, and the least number that one digit more would make too long.
 const DIGITS: u32 = 7;

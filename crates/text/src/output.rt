@@ -5,8 +5,8 @@ ghost use Rattle.model.specs.Packets.{arrivals};
 ghost use Rattle.model.specs.Record.{rowsOf};
 ghost use Rattle.text.specs.Output.{decimal, lineWith, rowLines, refusalText};
 ghost use Rattle.text.specs.Writing.{Wrote, SameLengths};
-use crate::code::COMMA;
-use crate::code::ZERO;
+use signs::COMMA;
+use signs::ZERO;
 
 // The most digits of a u64.
 const DIGITS: usize = 20;

@@ -3,9 +3,6 @@
 ghost use mathlib.Core.Path.{_≡_};
 ghost use Rattle.text.specs.Says.{Answered};
 ghost use Rattle.text.specs.Reading.{startParser, withField, spoiled as spoiling, afterReturn, nextLine, secondField, inFirst, inLine, atStart, headerBy, packetBy, kept, lineEnded, after, afterAll, finished, state};
-use crate::code::COMMA;
-use crate::code::CR;
-use crate::code::LF;
 use crate::field::Field;
 use crate::field::Kind;
 use crate::field::Stage;
@@ -14,6 +11,9 @@ use crate::run::run;
 use entry::put;
 use model::Cause;
 use model::Record;
+use signs::COMMA;
+use signs::CR;
+use signs::LF;
 
 // The header's two names.
 const SLOT: [u8; 4] = *b"slot";

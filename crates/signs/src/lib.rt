@@ -1,4 +1,4 @@
-// The bytes that the text's grammar names.
+// The bytes that the grammar of our texts names.
 pub const CR: u8 = b'\r';
 
 pub const LF: u8 = b'\n';
