@@ -1,0 +1,3 @@
+-- 01, 'The bench program': a field.
+pub mod Fields
+pub mod Reading
