@@ -123,11 +123,11 @@ from-by name f stage is rest = ap (λ (s : Stage). fieldFromBy s name f rest) is
 abbrev pub Lettered : List ℕ → Type 0
 Lettered name = (k : ℕ) → k < length name → 57 < getD name k 0
 
-and-left : (s t : Bool) → s && t ≡ true → s ≡ true
+pub and-left : (s t : Bool) → s && t ≡ true → s ≡ true
 and-left true t e = refl
 and-left false t e = e
 
-and-right : (s t : Bool) → s && t ≡ true → t ≡ true
+pub and-right : (s t : Bool) → s && t ≡ true → t ≡ true
 and-right true t e = e
 and-right false t e = let z : _≡_ {A = ℕ} 0 1 = cc in absurd (omega arith)
 
