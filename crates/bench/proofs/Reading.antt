@@ -8,7 +8,6 @@ use Rattle.field.specs.Fields.{fieldsOf, lettered}
 use Rattle.rows.specs.declared.Rows.{Rows}
 use Rattle.rows.specs.Whole.{allLettered, HeaderOfLetters, textOf}
 use Rattle.input.specs.declared.Ended.{Ended}
-use Rattle.input.specs.declared.Ended.the-variants as ended
 use Rattle.input.specs.Reads as reads
 use Rattle.text.specs.Bench.{benchHeader}
 use Rattle.text.specs.Says as says
@@ -16,7 +15,7 @@ use Rattle.text.specs.Says.{outputLimit, tableSize}
 use Rattle.text.proofs.Whole.{whole}
 use Rattle.bench.specs.declared.Told.{Told}
 use Rattle.bench.specs.declared.Told.the-variants.{Answered}
-use Rattle.bench.specs.Reads.{Output, TooMany, ToldBy}
+use Rattle.bench.specs.Reads.{Output, Overlong, ToldBy}
 
 of-letters : HeaderOfLetters benchHeader
 unfolding allLettered lettered fieldsOf
@@ -41,7 +40,7 @@ answered {read} {table} {table′} ended size size′ {out} {out′} {r} long to
     }
 
 -- more than can be counted
-pub too-long : {table table′ : List ℕ} → reads.TooMany benchHeader table table′ → TooMany
+pub too-long : {table table′ : List ℕ} → reads.Overlong benchHeader table table′ → Overlong
 too-long much = record { pieces = much .stopped .pieces; many = much .many }
 
 -- what is to be written stands in the list

@@ -19,12 +19,12 @@ pub record Output (n : ℕ) (out : List ℕ) : Type 0 where
   pub output : take n out ≡ benchOutput (textOf pieces)
 
 -- the reads handed over as many bytes as are read at most, or more
-pub record TooMany : Type 0 where
+pub record Overlong : Type 0 where
   pub pieces : List (List ℕ)
   pub many : mostBytes ≤ length (textOf pieces)
 
 -- how reading ended
 abbrev pub ToldBy : Told → List ℕ → Type 0
 ToldBy (Answered n) out = Output n out
-ToldBy TooLong out = TooMany
+ToldBy TooLong out = Overlong
 ToldBy Failed out = Unit {0}

@@ -1,7 +1,6 @@
 -- The reads so far: whatever pieces come behind those that came, the parser goes on from where it stands, the bytes add up, and the end is theirs.
 use Prim.Native.Nat.{ℕ, _+_, _≤_, _<_}
 use mathlib.Core.Path.{_≡_, refl, ap, sym, _∙_}
-use mathlib.Core.Bool.{true}
 use mathlib.Core.List.{List, [], _∷_, _++_, append-assoc}
 use native.Mathlib.Omega.{arith}
 use lib.ListN.{length, take, length-append}
@@ -14,7 +13,7 @@ use Rattle.rows.specs.Whole.{textOf, fed, readAll}
 use Rattle.rows.proofs.Whole.{whole}
 use Rattle.input.specs.declared.Piece.{Piece}
 use Rattle.input.specs.declared.Piece.the-variants as piece
-use Rattle.input.specs.Reads.{ReadOnce, toEnd, ReadToEnd, Stopped, TooMany, mostBytes}
+use Rattle.input.specs.Reads.{ReadOnce, toEnd, ReadToEnd, Stopped, Overlong, mostBytes}
 
 pub record SoFar (header : List ℕ) (start now : State) (left : ℕ) : Type 0 where
   pub pieces : List (List ℕ)
@@ -109,7 +108,7 @@ read-failed table′ bytes before is once = let same = rw is at once in rw same 
 
 -- more than can be counted
 pub read-much : {header table table₀ : List ℕ} {parser : Parser} {left : ℕ}
-    → SoFar header (state (startParser header) table₀) (state parser table) left → left ≡ 0 → TooMany header table₀ table
+    → SoFar header (state (startParser header) table₀) (state parser table) left → left ≡ 0 → Overlong header table₀ table
 unfolding textOf stopped-at
 read-much before done =
     let much = before .many in

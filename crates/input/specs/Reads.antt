@@ -1,6 +1,6 @@
 -- What is made of the reads. A piece is what one read handed over; the kit has no name for what stands on standard input, so the pieces are some list of
 -- lists.
-use Prim.Native.Nat.{ℕ, _-_, _*_, _^_, _≤_, _<_}
+use Prim.Native.Nat.{ℕ, _-_, _*_, _^_, _≤_}
 use mathlib.Core.Path.{_≡_}
 use mathlib.Core.Bool.{Bool, true, false, cond}
 use mathlib.Core.List.{List, [], _∷_}
@@ -10,7 +10,7 @@ use Rattle.model.specs.Limits.{recordLimits}
 use Rattle.rows.specs.declared.Rows.{Rows}
 use Rattle.rows.specs.Input.{columnsOf}
 use Rattle.rows.specs.Reading.{State, state, startParser, afterAll, outcomeOf}
-use Rattle.rows.specs.Whole.{textOf, fed, readAll, bytesLimit, HeaderOfLetters, Tells}
+use Rattle.rows.specs.Whole.{textOf, fed, readAll, HeaderOfLetters, Tells}
 use Rattle.input.specs.declared.Piece.{Piece}
 use Rattle.input.specs.declared.Piece.the-variants as piece
 use Rattle.input.specs.declared.Ended.{Ended}
@@ -46,7 +46,7 @@ abbrev pub mostBytes : ℕ
 mostBytes = 2 ^ 64 - 3
 
 -- the reads handed over as many bytes as that, or more
-pub record TooMany (header table table′ : List ℕ) : Type 0 where
+pub record Overlong (header table table′ : List ℕ) : Type 0 where
   pub stopped : Stopped header table table′
   pub many : mostBytes ≤ length (textOf (stopped .pieces))
 
@@ -54,4 +54,4 @@ pub record TooMany (header table table′ : List ℕ) : Type 0 where
 abbrev pub EndedBy : List ℕ → Ended → List ℕ → List ℕ → Type 0
 EndedBy header (ended.Read said) table table′ = ReadToEnd header said table table′
 EndedBy header ended.Failed table table′ = Stopped header table table′
-EndedBy header ended.TooLong table table′ = TooMany header table table′
+EndedBy header ended.TooLong table table′ = Overlong header table table′

@@ -1,12 +1,12 @@
 -- The end of the input: nothing is left, and what the state says is what it comes to. And what holds of every state that a text leads to.
-use Prim.Native.Nat.{ℕ, suc, min, _+_, _-_, _*_, _^_, _≤_, _<_}
+use Prim.Native.Nat.{ℕ, suc, _+_, _-_, _*_, _^_, _≤_, _<_}
 use mathlib.Core.Path.{_≡_, refl, sym, ap, _∙_}
 use mathlib.Core.Bool.{Bool, true, false, cond}
 use mathlib.Core.List.{List, [], _∷_, _++_, append-nil}
 use native.Mathlib.Nat.{zero-add, add-zero, suc-add}
 use native.Mathlib.Omega.{arith}
 use lib.ListN.{length}
-use lib.Dec.{ltb, eqb}
+use lib.Dec.{eqb}
 use borrow.Author.Tests.{ne-eqb}
 use Rattle.model.specs.Limits.{recordLimits}
 use Rattle.laws.proofs.Cases.{eqb-cases, cond-cases}
@@ -18,14 +18,13 @@ use Rattle.field.specs.Reading.{fieldAfter, isFresh, isBad}
 use Rattle.field.proofs.Fielding.{SoundField, fresh-sound, bad-sound, field-sound}
 use Rattle.rows.specs.Lines.{linesOf}
 use Rattle.rows.specs.Input.{Input, malformed, columnsOf, rowsFrom, isHeader, inputBy, inputOf}
-use Rattle.rows.specs.Table.{written}
 use Rattle.rows.specs.declared.Parser.{Parser}
-use Rattle.rows.specs.Reading.{startParser, nameOf, inField, spoiled, afterReturn, nextColumn, nextLine, State, state, inState, spoiledState, columnEnded, lineEnded, inLine, after, afterBy, afterAll, atStart, finished, finishedBy}
+use Rattle.rows.specs.Reading.{startParser, nameOf, inField, spoiled, afterReturn, nextColumn, nextLine, State, state, spoiledState, lineEnded, inLine, after, afterBy, afterAll, atStart, finished, finishedBy}
 use Rattle.rows.proofs.Parsing.{after-by, finished-by}
 use Rattle.rows.proofs.Naming.{fields-some}
-use Rattle.rows.proofs.Lining.{Got, bad, got, lineFrom, lineGot, AllLetters, name-letters, low-line, line-start, header-got}
+use Rattle.rows.proofs.Lining.{bad, got, AllLetters, name-letters, low-line, line-start, header-got}
 use Rattle.rows.proofs.Tabling.{cellsTo, rowsTo, written-length}
-use Rattle.rows.proofs.Telling.{lines-some, onward, linesLeft, leftBy, left, left-by, Final, stopped, finalOf, finalFrom, saidIn, Sound, spoiled-law, says-spoiled, ended-cases, comma-cases}
+use Rattle.rows.proofs.Telling.{lines-some, onward, linesLeft, left, left-by, stopped, finalOf, finalFrom, saidIn, Sound, spoiled-law, says-spoiled, ended-cases, comma-cases}
 use Rattle.rows.proofs.Turning.{ended-law, after-law}
 
 pub false-true : {A : Type 0} → false ≡ true → A

@@ -1,13 +1,12 @@
 -- A line read byte by byte is the line read as a whole: what a line that has been read so far and its rest make together does not change when one byte
 -- goes from the rest to what is read. Every column has a name, the empty one in a row; a number in a row is what is no name.
-use Prim.Native.Nat.{ℕ, zero, suc, _+_, _≤_, _<_}
-use mathlib.Core.Path.{_≡_, refl, sym, ap, ap₂, _∙_}
+use Prim.Native.Nat.{ℕ, zero, suc, _≤_, _<_}
+use mathlib.Core.Path.{_≡_, refl, sym, ap, _∙_}
 use mathlib.Core.Bool.{Bool, true, false, cond, _&&_}
 use mathlib.Core.List.{List, [], _∷_, map}
-use native.Mathlib.Nat.{zero-add}
 use native.Mathlib.Numerals.{add-one}
 use native.Mathlib.Omega.{arith}
-use lib.ListN.{length, getD, drop, replicate, length-replicate, length-drop, getD-replicate, drop-of-length-le}
+use lib.ListN.{length, getD, drop, replicate, length-replicate, getD-replicate, drop-of-length-le}
 use lib.Seq.{drop-cons}
 use lib.Dec.{eqb}
 use borrow.Author.Tests.{eq-eqb, ne-eqb}
@@ -17,9 +16,10 @@ use Rattle.signs.specs.Signs.{comma}
 use Rattle.field.specs.declared.Kind.{Kind}
 use Rattle.field.specs.declared.Kind.the-variants.{Neither, Name, Number}
 use Rattle.field.specs.declared.Field.{Field}
-use Rattle.field.specs.Fields.{fieldsOf, startsWith, same, heldIn, isNumber, allDigits, valueFrom, lettered}
+use Rattle.field.specs.Fields.{fieldsOf, startsWith, same, heldIn, isNumber, valueFrom, lettered}
 use Rattle.field.specs.Reading.{freshField, badField, fieldAfter, kindAt}
 use Rattle.field.proofs.Fielding.{SoundField, kindAfter, fieldFrom, Lettered, letters-of, and-left, and-right, field-law, kind-law, low-field, bad-from, fresh-from}
+use Rattle.field.proofs.Whole.{kind-whole}
 use Rattle.rows.specs.declared.Parser.{Parser}
 use Rattle.rows.specs.Input.{heldInAll, sameAll, allNumbers, columnsOf, isHeader, isRow, rowOf}
 use Rattle.rows.specs.Reading.{nameOf, inField, spoiled, nextColumn}
@@ -226,11 +226,6 @@ line-start header p is fresh some line =
     let names = namesIn header (isFirst p) in
     let more : 0 < length names = rw (names-length header (isFirst p)) some in
     rw (is, fresh) (rw (drop-cons names 0 [] more) (fresh-on (isFirst p) _ _ (fieldsOf line)) ∙ ap (λ (left : List (List ℕ)). fieldsGot (isFirst p) left (fieldsOf line)) (sym (drop-cons names 0 [] more)))
-
--- a whole field: its name, or a number, or neither
-kind-whole : (name held : List ℕ) → kindAfter name 0 0 0 held ≡ cond (same held name) Name (cond (isNumber held) (Number (valueFrom 0 held)) Neither)
-unfolding kindAfter isNumber
-kind-whole name held = rw (zero-add (length held)) refl
 
 -- the whole header line
 header-cases : (named number all : Bool) (n : ℕ) (more : Got) → more ≡ cond all (got []) bad

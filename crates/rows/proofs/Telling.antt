@@ -1,35 +1,29 @@
 -- A text read byte by byte is the text read line by line: what a state and the rest of the input come to does not change when one byte goes from the
 -- rest to what is read.
 use Prim.Native.Nat.{ℕ, suc, min, _+_, _-_, _*_, _^_, _≤_, _<_}
-use mathlib.Core.Path.{_≡_, refl, sym, ap, ap₂, _∙_}
+use mathlib.Core.Path.{_≡_, refl, ap₂, _∙_}
 use mathlib.Core.Bool.{Bool, true, false, cond, _&&_}
-use mathlib.Core.List.{List, [], _∷_, _++_, append-nil, append-assoc}
-use native.Mathlib.Nat.{zero-add, add-zero, suc-add}
-use native.Mathlib.Numerals.{add-one}
+use mathlib.Core.List.{List, [], _∷_, _++_}
 use native.Mathlib.Omega.{arith}
 use lib.ListN.{length}
 use lib.Dec.{ltb, eqb}
-use borrow.Author.Tests.{lt-ltb, ltb-true, ltb-false, eq-eqb, ne-eqb}
+use borrow.Author.Tests.{ltb-true, ltb-false, ne-eqb}
 use Rattle.model.specs.Limits.{recordLimits}
 use Rattle.laws.proofs.Cases.{eqb-cases, cond-cases}
 use Rattle.signs.specs.Signs.{cr, lf, comma}
 use Rattle.field.specs.declared.Kind.{Kind}
 use Rattle.field.specs.declared.Kind.the-variants.{Neither, Name, Number}
-use Rattle.field.specs.declared.Stage.{Stage}
-use Rattle.field.specs.declared.Stage.the-variants.{Fresh, Bare, Open, Closed, Bad}
 use Rattle.field.specs.Fields.{fieldsOf}
-use Rattle.field.specs.Reading.{freshField, fieldAfter, kindAt, isFresh, isBad}
-use Rattle.field.proofs.Fielding.{SoundField, fresh-sound, bad-sound, field-sound, field-begun}
+use Rattle.field.specs.Reading.{kindAt, isBad}
+use Rattle.field.proofs.Fielding.{SoundField}
 use Rattle.rows.specs.Lines as lines
 use Rattle.rows.specs.Lines.{unlessEmpty, linesOf}
-use Rattle.rows.specs.Input.{Input, malformed, rows, withRow, columnsOf, isRow, rowOf, rowsFrom, isHeader, inputBy, inputOf}
+use Rattle.rows.specs.Input.{Input, malformed, rows, withRow, columnsOf, isRow, rowOf, rowsFrom}
 use Rattle.rows.specs.Table.{written}
 use Rattle.rows.specs.declared.Parser.{Parser}
-use Rattle.rows.specs.Reading.{startParser, nameOf, inField, spoiled, afterReturn, nextColumn, nextLine, counted, State, state, inState, spoiledState, fieldEnded, fieldEndedBy, columnEnded, lineEnded, inLine, after, afterBy, afterAll, atStart, finished, finishedBy}
-use Rattle.rows.proofs.Parsing.{after-by, finished-by}
-use Rattle.rows.proofs.Naming.{fields-some}
-use Rattle.rows.proofs.Lining.{Got, bad, got, withNumber, taking, isFirst, lineFrom, lineGot, AllLetters, name-letters, spoiled-line, ended-last, ended-early, comma-last, comma-on, line-law, low-line, line-start, header-got, row-got}
-use Rattle.rows.proofs.Tabling.{cellsTo, rowsTo, written-rows, written-cells, written-length}
+use Rattle.rows.specs.Reading.{nameOf, nextColumn, nextLine, State, state, inState, spoiledState, fieldEnded, fieldEndedBy, columnEnded, lineEnded, atStart}
+use Rattle.rows.proofs.Lining.{Got, bad, got, withNumber, taking, lineFrom, lineGot, AllLetters, spoiled-line, ended-last, ended-early, comma-last, comma-on, line-start, row-got}
+use Rattle.rows.proofs.Tabling.{cellsTo, rowsTo}
 
 -- a text has a line
 pub lines-some : (text : List ℕ) (G : List (List ℕ) → Type 0) → ((line : List ℕ) (more : List (List ℕ)) → G (line ∷ more)) → G (linesOf text)

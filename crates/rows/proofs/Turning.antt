@@ -1,6 +1,6 @@
 -- One byte goes from the rest of the input to what is read: what the state and the rest come to stays the same.
-use Prim.Native.Nat.{ℕ, suc, min, _+_, _-_, _*_, _^_, _≤_, _<_}
-use mathlib.Core.Path.{_≡_, refl, sym, ap, ap₂, _∙_}
+use Prim.Native.Nat.{ℕ, suc, min, _+_, _-_, _*_, _^_, _<_}
+use mathlib.Core.Path.{_≡_, refl, sym, ap, _∙_}
 use mathlib.Core.Bool.{Bool, true, false, cond}
 use mathlib.Core.List.{List, [], _∷_, _++_, append-assoc}
 use native.Mathlib.Numerals.{add-one}
@@ -19,7 +19,7 @@ use Rattle.rows.specs.Lines.{linesOf}
 use Rattle.rows.specs.Input.{Input, malformed, rows, withRow, columnsOf, rowsFrom}
 use Rattle.rows.specs.Table.{written}
 use Rattle.rows.specs.declared.Parser.{Parser}
-use Rattle.rows.specs.Reading.{nameOf, inField, spoiled, afterReturn, nextColumn, nextLine, State, state, inState, spoiledState, columnEnded, lineEnded, inLine, after, afterBy, atStart}
+use Rattle.rows.specs.Reading.{nameOf, inField, afterReturn, nextColumn, nextLine, State, state, inState, columnEnded, lineEnded, inLine, after, afterBy, atStart}
 use Rattle.rows.proofs.Parsing.{after-by}
 use Rattle.rows.proofs.Lining.{Got, bad, got, withNumber, lineFrom, AllLetters, name-letters, line-law, low-line}
 use Rattle.rows.proofs.Tabling.{cellsTo, rowsTo, written-rows, written-cells}

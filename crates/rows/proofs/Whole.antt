@@ -1,7 +1,7 @@
 -- The parser as a whole: before the first byte all of the text is left, each piece goes from what is left to what is read, and at the end nothing is
 -- left. What was read row by row then stands in the table column by column.
-use Prim.Native.Nat.{ℕ, _*_, _≤_, _<_}
-use mathlib.Core.Path.{_≡_, refl, sym, ap, ap₂, _∙_}
+use Prim.Native.Nat.{ℕ, _*_, _<_}
+use mathlib.Core.Path.{_≡_, refl, sym, ap, _∙_}
 use mathlib.Core.Bool.{Bool, true, false, cond}
 use mathlib.Core.List.{List, [], _∷_}
 use native.Mathlib.Nat.{zero-add}
@@ -10,7 +10,6 @@ use lib.ListN.{length, length-append}
 use lib.Dec.{ltb}
 use borrow.Author.Tests.{ltb-false, le-ltb}
 use Rattle.model.specs.Limits.{recordLimits}
-use Rattle.laws.proofs.Cases.{cond-cases}
 use Rattle.field.specs.Fields.{fieldsOf}
 use Rattle.field.specs.Reading.{isBad}
 use Rattle.rows.specs.declared.Rows.{Rows}
@@ -18,7 +17,7 @@ use Rattle.rows.specs.declared.Rows.the-variants.{Malformed, TooMany, Re
 use Rattle.rows.specs.Input.{Input, malformed, rows, columnsOf, columnOf, inputOf}
 use Rattle.rows.specs.Table.{columnIn}
 use Rattle.rows.specs.Reading.{State, state, startParser, afterAll, finished, outcomeOf}
-use Rattle.rows.specs.Whole.{textOf, fed, readAll, saidOf, Stands, Tells, Whole}
+use Rattle.rows.specs.Whole.{textOf, fed, readAll, saidOf, Stands, Whole}
 use Rattle.rows.proofs.Lining.{AllLetters, all-letters}
 use Rattle.rows.proofs.Tabling.{rowsTo, rows-length, column-rows}
 use Rattle.rows.proofs.Telling.{Final, stopped, many, read, finalOf, finalFrom, saidIn, Sound}

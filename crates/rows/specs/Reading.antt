@@ -3,7 +3,7 @@
 use Prim.Native.Nat.{ℕ, min, _+_, _-_, _^_}
 use mathlib.Core.Bool.{Bool, true, false, cond}
 use mathlib.Core.List.{List, [], _∷_}
-use lib.ListN.{length, getD}
+use lib.ListN.{getD}
 use lib.Dec.{ltb, eqb}
 use Rattle.model.specs.Limits.{recordLimits}
 use Rattle.signs.specs.Signs.{cr, lf, comma}

@@ -7,7 +7,7 @@ ghost use mathlib.Core.List.{[]};
 ghost use lib.ListN.{length, getD};
 ghost use Rattle.field.specs.Fields.{fieldsOf};
 ghost use Rattle.rows.specs.Table.{written};
-ghost use Rattle.rows.specs.Reading.{startParser, inField, spoiled as spoiling, afterReturn, nextColumn, counted as counting, nextLine, nameOf, state, fieldEnded, columnEnded, lineEnded, inLine, after, afterAll, atStart, finished, outcomeOf};
+ghost use Rattle.rows.specs.Reading.{startParser, inField, spoiled as spoiling, afterReturn, counted as counting, nextLine, nameOf, state, fieldEnded, columnEnded, lineEnded, inLine, after, afterAll, atStart, finished, outcomeOf};
 use entry::put;
 use field::Field;
 use field::Kind;

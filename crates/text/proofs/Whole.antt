@@ -1,15 +1,15 @@
 -- What is said of what was read in a text is the text's output: by what was read. More packets than there are places for are refused by PG's own tests
 -- with 2, whatever they are.
-use Prim.Native.Nat.{ℕ, _≤_, _<_}
-use mathlib.Core.Path.{_≡_, refl, sym, ap, ap₂, _∙_}
+use Prim.Native.Nat.{ℕ, _<_}
+use mathlib.Core.Path.{_≡_, refl, sym, ap, _∙_}
 use mathlib.Core.Bool.{Bool, true, false, cond}
-use mathlib.Core.List.{List, [], _∷_}
+use mathlib.Core.List.{List}
 use native.Mathlib.Omega.{arith}
 use lib.ListN.{length, getD, take, drop, length-map, length-replicate}
 use lib.Seq.{take-at}
 use lib.Dec.{ltb}
 use borrow.Author.Tests.{ltb-true, ltb-false, lt-leb, eq-eqb}
-use Rattle.model.specs.declared.Cause.the-variants.{Packets, Text}
+use Rattle.model.specs.declared.Cause.the-variants.{Packets}
 use Rattle.model.specs.Limits.{recordLimits}
 use Rattle.model.specs.Answers.{causeNumber}
 use Rattle.model.specs.Calls.{pgCall, runUnless}
@@ -17,10 +17,9 @@ use Rattle.model.specs.Refusals.{pgRefusal}
 use Rattle.model.specs.Rules.{orElse}
 use Rattle.field.specs.Fields.{fieldsOf}
 use Rattle.rows.specs.declared.Rows.{Rows}
-use Rattle.rows.specs.declared.Rows.the-variants.{Malformed, TooMany, Read}
+use Rattle.rows.specs.declared.Rows.the-variants.{TooMany, Read}
 use Rattle.rows.specs.Input.{Input, malformed, rows, columnOf, inputOf}
-use Rattle.rows.specs.Table.{columnIn}
-use Rattle.rows.specs.Whole.{Stands, Tells}
+use Rattle.rows.specs.Whole.{Stands}
 use Rattle.rows.specs.Whole as read
 use Rattle.text.specs.Output.{refusalText}
 use Rattle.text.specs.Bench.{benchHeader, traceOutput, outputBy, benchOutput}

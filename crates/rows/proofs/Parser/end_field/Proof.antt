@@ -1,6 +1,6 @@
 -- `rows::Parser::end_field` meets its contract: by what the field holds, and by the line.
 use mathlib.Core.Path.{refl, ap}
-use borrow.Author.Tests.{eq-eqb, ne-eqb, lt-ltb, le-ltb}
+use borrow.Author.Tests.{eq-eqb, ne-eqb}
 use Rattle.rows.specs.declared.Parser.{Parser}
 use Rattle.rows.specs.Reading.{state}
 use Rattle.rows.proofs.Parsing.{field-ended-by}
