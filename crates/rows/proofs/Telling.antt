@@ -92,7 +92,7 @@ saidIn columns st =
     let p = st .parser in
     cond (isBad (p .field .stage)) (stopped (p .line)) (cond (ltb (recordLimits .packets) (p .count)) many (read (rowsTo columns (p .count) (st .table))))
 
--- a state that a text has led to, with room in its line's number for the bytes that follow
+-- a state that a text has led to, whose line's number can still count so many bytes that follow
 pub record Sound (header : List ℕ) (st : State) (following : ℕ) : Type 0 where
   pub table : length (st .table) ≡ columnsOf header * recordLimits .packets
   pub last : suc (st .parser .last) ≡ columnsOf header

@@ -31,7 +31,7 @@ readAll header pieces table = finished header (fed header pieces (state (startPa
 abbrev pub bytesLimit : ℕ
 bytesLimit = 2 ^ 64 - 2
 
--- a header whose names are of letters
+-- a header of letters: each of its names is of letters
 unfoldable pub allLettered : List (List ℕ) → Bool
 allLettered [] = true
 allLettered (name ∷ names) = lettered name && allLettered names
@@ -50,10 +50,12 @@ Stands columns (malformed line) table = Unit {0}
 Stands columns (rows all) table =
     length all ≤ recordLimits .packets → (j : ℕ) → j < columns → columnIn j (length all) table ≡ columnOf j all
 
+-- what was read, and the table, are those of the text
 pub record Tells (header text : List ℕ) (said : Rows) (table : List ℕ) : Type 0 where
   pub says : said ≡ saidOf (inputOf header text)
   pub stands : Stands (columnsOf header) (inputOf header text) table
 
+-- under a header of letters, into a table of its size
 abbrev pub Whole : Type 0
 Whole =
     (header : List ℕ) → HeaderOfLetters header
