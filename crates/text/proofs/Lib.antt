@@ -1,7 +1,3 @@
-pub mod Fielding
-pub mod Parsing
-pub mod Lining
-pub mod Telling
-pub mod Whole
 pub mod Writing
 pub mod Saying
+pub mod Whole

@@ -1,5 +1,5 @@
 -- What is said of a run is its record or its refusal, and what is said at the end is what the state says, written at the start of the list.
-use Prim.Native.Nat.{ℕ, zero, suc, _+_, _≤_, _<_}
+use Prim.Native.Nat.{ℕ, zero, suc, _+_, _-_, _≤_, _<_}
 use mathlib.Core.Path.{_≡_, refl, sym, ap, ap₂, _∙_}
 use mathlib.Core.List.{List, [], _∷_, _++_}
 use native.Mathlib.Omega.{arith}
@@ -19,14 +19,12 @@ use Rattle.model.specs.Calls.{Outcome, pgCall}
 use Rattle.entry.specs.Entry.{lists}
 use Rattle.steps.specs.Calls.{outcome}
 use Rattle.trace.proofs.Laws.{cause-refuses}
-use Rattle.text.specs.Input.{trace}
 use Rattle.text.specs.Output.{recordHeader, rowLines, refusalText}
-use Rattle.text.specs.Bench.{benchRoom, benchBeta, saidOf, outputBy}
-use Rattle.text.specs.declared.field.Stage.{Stage}
-use Rattle.text.specs.declared.field.Stage.the-variants.{Fresh, Bare, Open, Closed, Bad}
-use Rattle.text.specs.Reading.{State}
+use Rattle.text.specs.Bench.{benchRoom, benchBeta, saidOf, traceOutput}
+use Rattle.rows.specs.declared.Rows.{Rows}
+use Rattle.rows.specs.declared.Rows.the-variants.{Read}
 use Rattle.text.specs.Writing.{Wrote}
-use Rattle.text.specs.Says.{keptSay, saysBy, saysOf, outputLimit, spoken, Answered}
+use Rattle.text.specs.Says.{saysOf, outputLimit, tableSize, spoken, Answered}
 
 module _ (slots values : List ℕ) (answer : RunAnswer) (after : Lists) (o : Outcome) (is : outcome answer after ≡ o) where
   pub refused-said : (f : Refusal) → answer ≡ Refused f → refusalText (causeNumber (f .cause)) (f .place) ≡ saidOf slots values o
@@ -48,15 +46,16 @@ zeros-length (suc n) (suc m) h = ap suc (zeros-length n m (omega arith))
 
 pub blank-said : (slots values : List ℕ) (m : ℕ) → length slots ≤ m
     → saidOf slots values (pgCall slots values benchRoom benchBeta (lists (take (length slots) (replicate m 0)) (take (length slots) (replicate m 0)) (take (length slots) (replicate m 0))))
-    ≡ outputBy (trace slots values)
-unfolding outputBy
+    ≡ traceOutput slots values
+unfolding traceOutput
 blank-said slots values m h = ap (λ (l : List ℕ). saidOf slots values (pgCall slots values benchRoom benchBeta (lists l l l))) (zeros (length slots) m h)
 
-pub answered-none : (st : State) (out : List ℕ) → spoken st out ≡ [] → Answered st out 0 out
-answered-none st out none = record { inside = omega arith; count = rw none refl; written = rw none refl }
+pub answered-none : (read : Rows) (table out : List ℕ) → spoken read table out ≡ [] → Answered read table out 0 out
+answered-none read table out none = record { inside = omega arith; count = rw none refl; written = rw none refl }
 
-pub answered : (st : State) (out : List ℕ) (text : List ℕ) (r : ℕ) (out′ : List ℕ) → spoken st out ≡ text → Wrote 0 text out r out′ → Answered st out r out′
-answered st out text r out′ e W =
+pub answered : (read : Rows) (table out : List ℕ) (text : List ℕ) (r : ℕ) (out′ : List ℕ) → spoken read table out ≡ text → Wrote 0 text out r out′
+    → Answered read table out r out′
+answered read table out text r out′ e W =
     let n : r ≡ length text = omega (arith, W .behind) in
     record {
       inside = omega (arith, W .inside, W .behind);
@@ -67,42 +66,30 @@ answered st out text r out′ e W =
           ∙ ap₂ (λ (said : List ℕ) (k : ℕ). said ++ drop k out) (sym e) (sym (W .behind));
     }
 
-module _ (st : State) (out : List ℕ) where
-  pub short-slots : (length (st .slots) ≡ recordLimits .packets → ⊥) → spoken st out ≡ []
+module _ (read : Rows) (table out : List ℕ) where
+  pub short-table : (length table ≡ tableSize → ⊥) → spoken read table out ≡ []
   unfolding spoken
-  short-slots h = rw (ne-eqb (length (st .slots)) 2048 h) refl
+  short-table h = rw (ne-eqb (length table) tableSize h) refl
 
-  module _ (slots : length (st .slots) ≡ recordLimits .packets) where
-    pub short-values : (length (st .values) ≡ recordLimits .packets → ⊥) → spoken st out ≡ []
+  module _ (size : length table ≡ tableSize) where
+    pub short-out : length out < outputLimit → spoken read table out ≡ []
     unfolding spoken
-    short-values h = rw (eq-eqb (length (st .slots)) 2048 slots, ne-eqb (length (st .values)) 2048 h) refl
+    short-out h = rw (eq-eqb (length table) tableSize size, lt-ltb (length out) outputLimit h) refl
 
-    module _ (values : length (st .values) ≡ recordLimits .packets) where
-      pub short-out : length out < outputLimit → spoken st out ≡ []
-      unfolding spoken
-      short-out h = rw (eq-eqb (length (st .slots)) 2048 slots, eq-eqb (length (st .values)) 2048 values, lt-ltb (length out) outputLimit h) refl
+    pub says-all : outputLimit ≤ length out → spoken read table out ≡ saysOf read table
+    unfolding spoken
+    says-all long = rw (eq-eqb (length table) tableSize size, le-ltb (length out) outputLimit long) refl
 
-      module _ (long : outputLimit ≤ length out) where
-        pub says-all : spoken st out ≡ saysOf st
-        unfolding spoken
-        says-all = rw (eq-eqb (length (st .slots)) 2048 slots, eq-eqb (length (st .values)) 2048 values, le-ltb (length out) outputLimit long) refl
+    -- what was read, by what it is
+    module _ (long : outputLimit ≤ length out) where
+      pub says-by : (k : Rows) → read ≡ k → spoken read table out ≡ saysOf k table
+      says-by k is = says-all long ∙ ap (λ (r : Rows). saysOf r table) is
 
-        pub says-bad : st .parser .field .stage ≡ Bad → spoken st out ≡ refusalText (causeNumber causes.Text) (st .parser .line)
-        unfolding saysOf
-        says-bad is = says-all ∙ ap (λ (s : Stage). saysBy s st) is
+      pub says-many : (count : ℕ) → read ≡ Read count → recordLimits .packets < count → spoken read table out ≡ refusalText (causeNumber causes.Packets) 0
+      says-many count is many = says-by (Read count) is ∙ rw (lt-ltb 2048 count many) refl
 
-        says-kept : (s : Stage) → (s ≡ Bad → ⊥) → saysBy s st ≡ keptSay st
-        says-kept Fresh h = refl
-        says-kept Bare h = refl
-        says-kept Open h = refl
-        says-kept Closed h = refl
-        says-kept Bad h = absurd (h refl)
-
-        pub says-many : (st .parser .field .stage ≡ Bad → ⊥) → recordLimits .packets < st .parser .count → spoken st out ≡ refusalText (causeNumber causes.Packets) 0
-        unfolding saysOf keptSay
-        says-many other many = says-all ∙ says-kept (st .parser .field .stage) other ∙ rw (lt-ltb 2048 (st .parser .count) many) refl
-
-        pub says-trace : (st .parser .field .stage ≡ Bad → ⊥) → st .parser .count ≤ recordLimits .packets
-            → spoken st out ≡ outputBy (trace (take (st .parser .count) (st .slots)) (take (st .parser .count) (st .values)))
-        unfolding saysOf keptSay
-        says-trace other few = says-all ∙ says-kept (st .parser .field .stage) other ∙ rw (le-ltb 2048 (st .parser .count) few) refl
+      pub says-trace : (count : ℕ) → read ≡ Read count → count ≤ recordLimits .packets
+          → spoken read table out ≡ traceOutput (take count table) (take (2048 + count - 2048) (drop 2048 table))
+      says-trace count is few =
+          let n : 2048 + count - 2048 ≡ count = omega arith in
+          says-by (Read count) is ∙ rw (le-ltb 2048 count few, n) refl

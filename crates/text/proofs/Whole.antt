@@ -1,37 +1,61 @@
--- The program as a whole: before the first byte all of the text is left, each piece goes from what is left to what is read, and at the end nothing is
--- left.
-use Prim.Native.Nat.{ℕ}
-use mathlib.Core.Path.{_≡_, sym, ap, _∙_}
-use mathlib.Core.List.{List, [], _∷_}
-use lib.ListN.{length, take, drop, length-append}
+-- What is said of what was read in a text is the text's output: by what was read. More packets than there are places for are refused by PG's own tests
+-- with 2, whatever they are.
+use Prim.Native.Nat.{ℕ, _<_}
+use mathlib.Core.Path.{_≡_, refl, sym, ap, _∙_}
+use mathlib.Core.Bool.{Bool, true, false, cond}
+use mathlib.Core.List.{List}
+use native.Mathlib.Omega.{arith}
+use lib.ListN.{length, getD, take, drop, length-map, length-replicate}
 use lib.Seq.{take-at}
-use Rattle.text.specs.Reading.{State, state, startParser, afterAll, finished}
+use lib.Dec.{ltb}
+use borrow.Author.Tests.{ltb-true, ltb-false, lt-leb, eq-eqb}
+use Rattle.model.specs.declared.Cause.the-variants.{Packets}
+use Rattle.model.specs.Limits.{recordLimits}
+use Rattle.model.specs.Answers.{causeNumber}
+use Rattle.model.specs.Calls.{pgCall, runUnless}
+use Rattle.model.specs.Refusals.{pgRefusal}
+use Rattle.model.specs.Rules.{orElse}
+use Rattle.field.specs.Fields.{fieldsOf}
+use Rattle.rows.specs.declared.Rows.{Rows}
+use Rattle.rows.specs.declared.Rows.the-variants.{TooMany, Read}
+use Rattle.rows.specs.Input.{Input, malformed, rows, columnOf, inputOf}
+use Rattle.rows.specs.Whole.{Stands}
+use Rattle.rows.specs.Whole as read
+use Rattle.text.specs.Output.{refusalText}
+use Rattle.text.specs.Bench.{benchHeader, traceOutput, outputBy, benchOutput}
 use Rattle.text.specs.Says.{saysOf, spoken}
-use Rattle.text.specs.Whole.{textOf, fed, Whole}
-use Rattle.text.proofs.Telling.{Sound, outputFrom, finished-law, start-law, sound-start, read-law, long-finished}
+use Rattle.text.specs.Whole.{Whole}
 use Rattle.text.proofs.Saying.{says-all}
 
-pieces-law : (pieces : List (List ℕ)) (st : State) → Sound st (length (textOf pieces)) → saysOf (finished (fed pieces st)) ≡ outputFrom st (textOf pieces)
-unfolding textOf fed
-pieces-law [] st sound = finished-law st 0 sound
-pieces-law (piece ∷ pieces) st sound =
-    let read = read-law piece (length (textOf pieces)) st (rw (length-append piece (textOf pieces)) at sound) in
-    pieces-law pieces (afterAll piece st) (read .sound) ∙ read .is (textOf pieces)
+-- more than 2,048 packets are refused with 2, whatever they are
+too-many : (slots values : List ℕ) → length values ≡ length slots → recordLimits .packets < length slots
+    → traceOutput slots values ≡ refusalText (causeNumber Packets) 0
+unfolding traceOutput pgCall pgRefusal runUnless orElse
+too-many slots values same many =
+    rw (length-replicate {A = ℕ} (length slots) 0, eq-eqb (length values) (length slots) same, eq-eqb (length slots) (length slots) refl, lt-leb (length slots) 2048 many) refl
 
-sound-fed : (pieces : List (List ℕ)) (st : State) → Sound st (length (textOf pieces)) → Sound (fed pieces st) 0
-unfolding textOf fed
-sound-fed [] st sound = sound
-sound-fed (piece ∷ pieces) st sound =
-    sound-fed pieces (afterAll piece st) (read-law piece (length (textOf pieces)) st (rw (length-append piece (textOf pieces)) at sound) .sound)
+column-length : (j : ℕ) (all : List (List ℕ)) → length (columnOf j all) ≡ length all
+column-length j all = length-map all (λ (row : List ℕ). getD row j 0)
+
+says-input : (input : Input) (table : List ℕ) → Stands 2 input table → saysOf (read.saidOf input) table ≡ outputBy input
+unfolding outputBy
+says-input (malformed line) table stands = refl
+says-input (rows all) table stands = go (ltb 2048 (length all)) refl
+  where
+    go : (t : Bool) → ltb 2048 (length all) ≡ t → saysOf (cond t TooMany (Read (length all))) table ≡ traceOutput (columnOf 0 all) (columnOf 1 all)
+    go true e =
+        let slots = column-length 0 all in
+        let values = column-length 1 all in
+        sym (too-many (columnOf 0 all) (columnOf 1 all) (values ∙ sym slots) (omega (arith, ltb-true 2048 (length all) e)))
+    go false e =
+        let few = ltb-false 2048 (length all) e in
+        rw (e, stands few 0 (omega arith), stands few 1 (omega arith)) refl
 
 pub whole : Whole
-whole pieces slots values ls lv few out long r out′ A =
-    let start = state startParser slots values in
-    let sound = sound-start slots values (length (textOf pieces)) ls lv few in
-    let last = finished (fed pieces start) in
-    let kept = long-finished (fed pieces start) 0 (sound-fed pieces start sound) in
+unfolding benchOutput fieldsOf
+whole text read table tells size out long r out′ A =
     ap (take r) (A .written)
-    ∙ take-at (spoken last out) (drop r out) r (sym (A .count))
-    ∙ says-all last out (kept .0) (kept .1) long
-    ∙ pieces-law pieces start sound
-    ∙ start-law slots values (textOf pieces)
+    ∙ take-at (spoken read table out) (drop r out) r (sym (A .count))
+    ∙ says-all read table out size long
+    ∙ ap (λ (said : Rows). saysOf said table) (tells .says)
+    ∙ says-input (inputOf benchHeader text) table (tells .stands)

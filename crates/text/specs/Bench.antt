@@ -2,17 +2,22 @@
 -- and 6.
 use Prim.Native.Nat.{ℕ}
 use mathlib.Core.Bool.{cond}
-use mathlib.Core.List.{List, _++_}
+use mathlib.Core.List.{List, [], _∷_, _++_}
 use lib.ListN.{length}
 use lib.Dec.{eqb}
 use Rattle.model.specs.declared.Beta.{Beta}
 use Rattle.model.specs.declared.Cause.the-variants.{Text}
 use Rattle.model.specs.Packets.{arrivals}
-use Rattle.model.specs.Record.{blank, rows}
+use Rattle.model.specs.Record as recording
+use Rattle.model.specs.Record.{blank}
 use Rattle.model.specs.Numbers.{causeNumber}
 use Rattle.model.specs.Calls.{Outcome, pgCall}
-use Rattle.text.specs.Input.{Input, malformed, trace, inputOf}
+use Rattle.rows.specs.Input.{Input, malformed, rows, inputOf, columnOf}
 use Rattle.text.specs.Output.{recordHeader, rowLines, refusalText}
+
+-- `slot,value`
+abbrev pub benchHeader : List ℕ
+benchHeader = 115 ∷ 108 ∷ 111 ∷ 116 ∷ 44 ∷ 118 ∷ 97 ∷ 108 ∷ 117 ∷ 101 ∷ []
 
 abbrev pub benchRoom : ℕ
 benchRoom = 2
@@ -24,12 +29,16 @@ benchBeta = record { num = 9; den = 1 }
 abbrev pub saidOf : List ℕ → List ℕ → Outcome → List ℕ
 saidOf slots values outcome =
     cond (eqb (outcome .reply .number) 0)
-    (recordHeader ++ rowLines (rows (arrivals slots values) (outcome .lists)))
+    (recordHeader ++ rowLines (recording.rows (arrivals slots values) (outcome .lists)))
     (refusalText (outcome .reply .number) (outcome .reply .place))
+
+-- what PG says of a trace
+unfoldable pub traceOutput : List ℕ → List ℕ → List ℕ
+traceOutput slots values = saidOf slots values (pgCall slots values benchRoom benchBeta (blank (length slots)))
 
 unfoldable pub outputBy : Input → List ℕ
 outputBy (malformed line) = refusalText (causeNumber Text) line
-outputBy (trace slots values) = saidOf slots values (pgCall slots values benchRoom benchBeta (blank (length slots)))
+outputBy (rows table) = traceOutput (columnOf 0 table) (columnOf 1 table)
 
 unfoldable pub benchOutput : List ℕ → List ℕ
-benchOutput text = outputBy (inputOf text)
+benchOutput text = outputBy (inputOf benchHeader text)

@@ -1,10 +1,6 @@
 -- 01, 'The bench program'.
-pub mod Lines
-pub mod Fields
-pub mod Input
 pub mod Output
 pub mod Bench
-pub mod Reading
 pub mod Says
 pub mod Whole
 pub mod Writing

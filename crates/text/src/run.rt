@@ -5,8 +5,7 @@ ghost use lib.ListN.{length};
 ghost use Rattle.model.specs.Limits.{recordLimits};
 ghost use Rattle.model.specs.Calls.{pgCall};
 ghost use Rattle.entry.specs.Entry.{lists};
-ghost use Rattle.text.specs.Input.{trace};
-ghost use Rattle.text.specs.Bench.{benchRoom, benchBeta, saidOf, outputBy};
+ghost use Rattle.text.specs.Bench.{benchRoom, benchBeta, saidOf, traceOutput};
 ghost use Rattle.text.specs.Writing.{Wrote, SameLengths};
 ghost use Rattle.text.specs.Says.{outputLimit};
 use crate::output::put;
@@ -56,7 +55,7 @@ pub fn run(slots: &[u32], values: &[u32], out: &mut [u8]) -> usize
     requires { ⌜ length (now values) ≡ length (now slots) ⌝ }
     requires { ⌜ length (now slots) ≤ recordLimits .packets ⌝ }
     requires { ⌜ outputLimit ≤ length (now out) ⌝ }
-    ensures { λ r. ⌜ Wrote 0 (outputBy (trace (now (slots .entry)) (now (values .entry)))) (now (out .entry)) r (now (out .exit)) ⌝ }
+    ensures { λ r. ⌜ Wrote 0 (traceOutput (now (slots .entry)) (now (values .entry))) (now (out .entry)) r (now (out .exit)) ⌝ }
 {
     let n = slots.len();
     let mut fates = [0u32; Record::PACKETS];

@@ -1,0 +1,63 @@
+use Rattle.field.specs.Reading.{digitTaken}
+use mathlib.Core.Path.{refl}
+use borrow.Author.Tests.{lt-ltb, le-ltb, le-leb, lt-leb}
+use borrow.Author.Needs.{needs}
+use Rattle.field.proofs.Field.digit.Statement.{statement}
+use Rattle.field.proofs.Field.digit.Tie as tie
+
+bad-requires : tie.Need-bad-requires
+bad-requires c κs = search needs
+
+returns : tie.Need-returns
+unfolding digitTaken
+returns c = rw (lt-ltb _ _ (c .before .if1 .taken)) (c .bad .ensures)
+
+bad-requires-2 : tie.Need-bad-requires-2
+bad-requires-2 c κs = search needs
+
+returns-2 : tie.Need-returns-2
+unfolding digitTaken
+returns-2 c = rw (le-ltb _ _ (c .before .before .before .if1 .left), le-leb _ _ (c .before .if2 .taken)) (c .bad2 .ensures)
+
+bad-requires-3 : tie.Need-bad-requires-3
+bad-requires-3 c κs = search needs
+
+returns-3 : tie.Need-returns-3
+unfolding digitTaken
+returns-3 c = rw (le-ltb _ _ (c .before .before .before .before .before .if1 .left), lt-leb _ _ (c .before .before .before .if2 .left), le-leb _ _ (c .before .if3 .taken)) (c .bad3 .ensures)
+
+add-t5 : tie.Need-add-t5
+add-t5 c = search needs
+
+mul-t6 : tie.Need-mul-t6
+mul-t6 c = search needs
+
+sub-t7 : tie.Need-sub-t7
+sub-t7 c = search needs
+
+cast-t8 : tie.Need-cast-t8
+cast-t8 c = search needs
+
+add-t9 : tie.Need-add-t9
+add-t9 c = search needs
+
+returns-4 : tie.Need-returns-4
+unfolding digitTaken
+returns-4 c = rw (le-ltb _ _ (c .before .before .before .before .before .before .if1 .left), lt-leb _ _ (c .before .before .before .before .if2 .left), lt-leb _ _ (c .before .before .if3 .left)) refl
+
+pub digit-spec : {M : Type 1} → statement M
+digit-spec =
+    tie.close
+    (tie.spec
+    bad-requires
+    returns
+    bad-requires-2
+    returns-2
+    bad-requires-3
+    returns-3
+    add-t5
+    mul-t6
+    sub-t7
+    cast-t8
+    add-t9
+    returns-4)

@@ -1,0 +1,2 @@
+pub mod Fielding
+pub mod Whole

@@ -1,0 +1,4 @@
+-- 01, 'The bench program': a field.
+pub mod Fields
+pub mod Reading
+pub mod Whole
