@@ -1,6 +1,6 @@
 """What tests/lab and tests/lab_run share: a copy of what lab needs, a run of lab and its judgement, and the cases that every command takes whose text comes
 in on standard input: reading and writing that fails, links, folders, and programs that are missing."""
-import concurrent.futures, csv, importlib.machinery, importlib.util, io, os, pathlib, pty, re, resource, select, shlex, shutil, signal, subprocess, sys, tempfile
+import concurrent.futures, csv, importlib.machinery, importlib.util, io, json, os, pathlib, pty, re, resource, select, shlex, shutil, signal, subprocess, sys, tempfile
 
 sys.dont_write_bytecode = True
 # This python3 itself comes first, and not a script that looks for it: each refusal starts one.
@@ -153,6 +153,14 @@ def written(rows=(("slot", "value"), *PACKETS), **form):
     text = io.StringIO()
     csv.writer(text, **form).writerows(rows)
     return text.getvalue().encode()
+
+
+def by_jq():
+    """The worked example as jq itself writes it, where jq is there: a title and the text."""
+    data = json.dumps([{"slot": slot, "value": value} for slot, value in PACKETS]).encode()
+    for title, asked in (("a header", '["slot","value"],(.[]|[.slot,.value])|@csv'), ("numbers", '"slot,value",(.[]|"\\(.slot),\\(.value)")')):
+        if shutil.which("jq"):
+            yield f"jq itself, {title}", subprocess.run(["jq", "-r", asked], input=data, capture_output=True, check=True).stdout
 
 
 def streams(tree, call, what, given, answer):
