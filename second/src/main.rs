@@ -27,6 +27,7 @@ const USAGE: &str = "usage: second                  a line for each batch of cas
        second --drawn C        the trace and parameters of case C
        second --run CALL ROOM PARAMETERS SLOTS VALUES [RECORD]
                                one call on one trace: what it says and its totals
+       second --runs < FILE    a call a line, in the words of --run: all their answers
        second --mistakes       the mistakes of docs/MISTAKES.md, a name and a sentence each
        second --mistake NAME --run CALL ..
                                the same call with that mistake made
@@ -61,6 +62,13 @@ fn main() -> ExitCode {
             Err(_) => return usage(),
         },
         ["--run", ref rest @ ..] => match one::run(rest) {
+            Some(text) => write_text(&text),
+            None => return usage(),
+        },
+        ["--runs"] => match io::read_to_string(io::stdin())
+            .ok()
+            .and_then(|calls| one::runs(&calls))
+        {
             Some(text) => write_text(&text),
             None => return usage(),
         },

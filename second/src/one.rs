@@ -43,6 +43,12 @@ pub fn run(words: &[&str]) -> Option<String> {
     })
 }
 
+/// A call a line: the two lines of each. Nothing where one is not understood.
+pub fn runs(calls: &str) -> Option<String> {
+    let answer = |line: &str| run(&line.split(' ').collect::<Vec<_>>());
+    calls.lines().map(answer).collect()
+}
+
 /// A live port fed the trace, where PG's call accepts that: the record that its answers tell. Every
 /// slot is ended; after the last arrival slots go on until the port is idle.
 fn fed(
