@@ -1,7 +1,8 @@
 // The ends of slots under MF, on a window that lies within its lists.
+ghost use Rattle.model.specs.Lent.{listsAfter};
 ghost use Rattle.trace.specs.Checked.{markingOf};
 ghost use Rattle.steps.specs.Window.{Within};
-ghost use Rattle.steps.specs.Lent.{lentBefore, listsAfter, moved, movedFrom};
+ghost use Rattle.steps.specs.Lent.{lentBefore, moved, movedFrom};
 ghost use Rattle.flush.specs.Flush.{mfFrom, mfTo, Sends, EndedIn, EndsIn};
 use crate::sift::flush;
 use crate::sift::head_mark;

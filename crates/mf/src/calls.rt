@@ -3,8 +3,9 @@ ghost use mathlib.Core.Path.{_≡_};
 ghost use lib.ListN.{length};
 ghost use Rattle.model.specs.Calls.{ran, mfCall};
 ghost use Rattle.model.specs.Policies.MF.{mfPolicy, mfRun, unmarked};
+ghost use Rattle.model.specs.Lent.{listsBefore, listsAfter};
 ghost use Rattle.trace.specs.Checked.{markingOf};
-ghost use Rattle.entry.specs.Entry.{lists};
+ghost use Rattle.model.specs.Record.{listsOf};
 ghost use Rattle.steps.specs.Calls.{Ready, outcome};
 use crate::mf::run_mf;
 use model::Record;
@@ -24,8 +25,8 @@ fn finish_mf(
     whens: &mut [u32],
     bys: &mut [u32],
 ) -> RunAnswer
-    requires { ⌜ Ready (mfPolicy room (markingOf lo hi r) (now slots)) (unmarked (length (now slots))) (now slots) (now values) (lists (now fates) (now whens) (now bys)) ⌝ }
-    ensures { λ answer. ⌜ outcome answer (lists (now (fates .exit)) (now (whens .exit)) (now (bys .exit))) ≡ ran (now (slots .entry)) (now (values .entry)) (mfRun room (markingOf lo hi r) (now (slots .entry)) (now (values .entry))) ⌝ }
+    requires { ⌜ Ready (mfPolicy room (markingOf lo hi r) (now slots)) (unmarked (length (now slots))) (now slots) (now values) (listsOf (now fates) (now whens) (now bys)) ⌝ }
+    ensures { λ answer. ⌜ outcome answer (listsAfter fates whens bys) ≡ ran (now (slots .entry)) (now (values .entry)) (mfRun room (markingOf lo hi r) (now (slots .entry)) (now (values .entry))) ⌝ }
 {
     let mut marks = [0u32; Record::PACKETS];
     let n = slots.len();
@@ -56,7 +57,7 @@ pub fn mf(
     whens: &mut [u32],
     bys: &mut [u32],
 ) -> RunAnswer
-    ensures { λ answer. ⌜ outcome answer (lists (now (fates .exit)) (now (whens .exit)) (now (bys .exit))) ≡ mfCall (now (slots .entry)) (now (values .entry)) room (markingOf lo hi r) (lists (now (fates .entry)) (now (whens .entry)) (now (bys .entry))) ⌝ }
+    ensures { λ answer. ⌜ outcome answer (listsAfter fates whens bys) ≡ mfCall (now (slots .entry)) (now (values .entry)) room (markingOf lo hi r) (listsBefore fates whens bys) ⌝ }
 {
     match trace::mf(slots, values, room, lo, hi, r, fates, whens, bys) {
         Checked::Refused(refusal) => RunAnswer::Refused(refusal),

@@ -4,9 +4,9 @@ ghost use mathlib.Core.List.{[]};
 ghost use Prim.Native.Nat.{_-_, _<_};
 ghost use lib.ListN.{length};
 ghost use Rattle.model.specs.Policies.MF.{mfPolicy, unmarked};
+ghost use Rattle.model.specs.Lent.{listsBefore, listsAfter};
 ghost use Rattle.laws.proofs.Standing.{turn};
 ghost use Rattle.trace.specs.Checked.{markingOf};
-ghost use Rattle.entry.specs.Entry.{lists};
 ghost use Rattle.steps.specs.Window.{windowOf, Within};
 ghost use Rattle.steps.specs.Step.{arrival};
 ghost use Rattle.steps.specs.Run.{Runnable, Ran};
@@ -41,7 +41,7 @@ fn take(
 ) -> Window
     requires { ⌜ Within w (now numbers) (now values) ⌝ }
     requires { ⌜ w .tail - w .head < length (now values) ⌝ }
-    ensures { λ v. ⌜ Finished (turn (mfPolicy room (markingOf lo hi r) (now (slots .entry))) before (beside (windowOf w (now (numbers .entry)) (now (values .entry))) (now (marks .entry))) (arrival slot p)) (lists (now (fates .entry)) (now (whens .entry)) (now (bys .entry))) v (now (numbers .exit)) (now (values .exit)) (now (marks .exit)) (lists (now (fates .exit)) (now (whens .exit)) (now (bys .exit))) ⌝ }
+    ensures { λ v. ⌜ Finished (turn (mfPolicy room (markingOf lo hi r) (now (slots .entry))) before (beside (windowOf w (now (numbers .entry)) (now (values .entry))) (now (marks .entry))) (arrival slot p)) (listsBefore fates whens bys) v (now (numbers .exit)) (now (values .exit)) (now (marks .exit)) (listsAfter fates whens bys) ⌝ }
 {
     let left = end_slots(
         numbers,
@@ -88,7 +88,7 @@ pub fn run_mf(
 ) -> u32
     requires { ⌜ Runnable (mfPolicy room (markingOf lo hi r) (now slots)) (unmarked (length (now slots))) (now slots) (now values) ⌝ }
     requires { ⌜ beside [] (now marks) ≡ unmarked (length (now slots)) ⌝ }
-    ensures { λ most. ⌜ Ran (mfPolicy room (markingOf lo hi r) (now (slots .entry))) (unmarked (length (now (slots .entry)))) (now (slots .entry)) (now (values .entry)) (lists (now (fates .entry)) (now (whens .entry)) (now (bys .entry))) (lists (now (fates .exit)) (now (whens .exit)) (now (bys .exit))) most ⌝ }
+    ensures { λ most. ⌜ Ran (mfPolicy room (markingOf lo hi r) (now (slots .entry))) (unmarked (length (now (slots .entry)))) (now (slots .entry)) (now (values .entry)) (listsBefore fates whens bys) (listsAfter fates whens bys) most ⌝ }
 {
     let mut numbers = [0u32; PLACES];
     let mut held = [0u32; PLACES];

@@ -10,7 +10,7 @@ use Rattle.model.specs.declared.Totals.{Totals}
 use Rattle.model.specs.declared.RunAnswer.the-variants.{Ran as RanTo, Refused}
 use Rattle.model.specs.Limits.{recordLimits}
 use Rattle.model.specs.Packets.{arrivals}
-use Rattle.model.specs.Record.{Lists}
+use Rattle.model.specs.Record.{Lists, listsOf}
 use Rattle.model.specs.Rules.{Verdict, clear}
 use Rattle.model.specs.Course.{byRule}
 use Rattle.model.specs.Policies.Plan.{planKept, keptRule}
@@ -20,7 +20,6 @@ use Rattle.model.specs.Calls.{planCall}
 use Rattle.laws.proofs.WellFormed.{wellFormed-plan}
 use Rattle.laws.proofs.Lawful.{lawful-plan}
 use Rattle.laws.proofs.Accepted.{Accepted, accepted}
-use Rattle.entry.specs.Entry.{lists as listsOf}
 use Rattle.steps.specs.Guarded.{Guarded}
 use Rattle.steps.specs.Run.{Runnable, Ran}
 use Rattle.totals.specs.Totals.{CountedOrNone}

@@ -1,7 +1,7 @@
 // The public call of the offline plan: it tests its input, runs, and answers the totals of the record that it wrote.
 ghost use mathlib.Core.Path.{_≡_};
 ghost use Rattle.model.specs.Calls.{planCall};
-ghost use Rattle.entry.specs.Entry.{lists};
+ghost use Rattle.model.specs.Lent.{listsBefore, listsAfter};
 ghost use Rattle.steps.specs.Calls.{outcome};
 use crate::plan::run;
 use kept::keep;
@@ -19,7 +19,7 @@ pub fn plan(
     whens: &mut [u32],
     bys: &mut [u32],
 ) -> RunAnswer
-    ensures { λ r. ⌜ outcome r (lists (now (fates .exit)) (now (whens .exit)) (now (bys .exit))) ≡ planCall (now (slots .entry)) (now (values .entry)) room (lists (now (fates .entry)) (now (whens .entry)) (now (bys .entry))) ⌝ }
+    ensures { λ r. ⌜ outcome r (listsAfter fates whens bys) ≡ planCall (now (slots .entry)) (now (values .entry)) room (listsBefore fates whens bys) ⌝ }
 {
     let tested = trace::plain(slots, values, room, fates, whens, bys);
     if let Checked::Refused(refusal) = tested {

@@ -5,7 +5,7 @@ ghost use Rattle.model.specs.Course.{byRule};
 ghost use Prim.Native.Nat.{_-_, _<_};
 ghost use lib.ListN.{length};
 ghost use Rattle.model.specs.Policies.Plan.{keptRule};
-ghost use Rattle.entry.specs.Entry.{lists};
+ghost use Rattle.model.specs.Lent.{listsBefore, listsAfter};
 ghost use Rattle.steps.specs.Window.{windowOf, Within};
 ghost use Rattle.steps.specs.Step.{Stepped, arrival, turning};
 ghost use Rattle.steps.specs.Run.{Runnable, Ran};
@@ -35,7 +35,7 @@ fn take(
 ) -> Window
     requires { ⌜ Within w (now numbers) (now values) ⌝ }
     requires { ⌜ w .tail - w .head < length (now values) ⌝ }
-    ensures { λ r. ⌜ Stepped (turning (heldIf kept) before (arrival slot p) (windowOf w (now (numbers .entry)) (now (values .entry)))) (lists (now (fates .entry)) (now (whens .entry)) (now (bys .entry))) r (now (numbers .exit)) (now (values .exit)) (lists (now (fates .exit)) (now (whens .exit)) (now (bys .exit))) ⌝ }
+    ensures { λ r. ⌜ Stepped (turning (heldIf kept) before (arrival slot p) (windowOf w (now (numbers .entry)) (now (values .entry)))) (listsBefore fates whens bys) r (now (numbers .exit)) (now (values .exit)) (listsAfter fates whens bys) ⌝ }
 {
     let left = send_until(numbers, values, fates, whens, bys, w, before, slot);
     if kept {
@@ -56,7 +56,7 @@ pub fn run(
 ) -> u32
     requires { ⌜ Runnable (byRule (keptRule (now kept))) [] (now slots) (now values) ⌝ }
     requires { ⌜ length (now kept) ≡ length (now slots) ⌝ }
-    ensures { λ r. ⌜ Ran (byRule (keptRule (now (kept .entry)))) [] (now (slots .entry)) (now (values .entry)) (lists (now (fates .entry)) (now (whens .entry)) (now (bys .entry))) (lists (now (fates .exit)) (now (whens .exit)) (now (bys .exit))) r ⌝ }
+    ensures { λ r. ⌜ Ran (byRule (keptRule (now (kept .entry)))) [] (now (slots .entry)) (now (values .entry)) (listsBefore fates whens bys) (listsAfter fates whens bys) r ⌝ }
 {
     let mut numbers = [0u32; PLACES];
     let mut held = [0u32; PLACES];

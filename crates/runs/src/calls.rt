@@ -5,8 +5,9 @@ ghost use Prim.Native.Nat.{_≤_};
 ghost use Rattle.model.specs.Calls.{ran, greedyCall, pgCall};
 ghost use Rattle.model.specs.Course.{byRule, course, first};
 ghost use Rattle.model.specs.Packets.{arrivals};
+ghost use Rattle.model.specs.Lent.{listsBefore, listsAfter};
 ghost use Rattle.queue.specs.Choose.{ruleOf};
-ghost use Rattle.entry.specs.Entry.{lists};
+ghost use Rattle.model.specs.Record.{listsOf};
 ghost use Rattle.steps.specs.Calls.{Ready, outcome};
 use crate::run::run;
 use model::Beta;
@@ -25,9 +26,9 @@ fn finish(
     whens: &mut [u32],
     bys: &mut [u32],
 ) -> RunAnswer
-    requires { ⌜ Ready (byRule (ruleOf room rule)) [] (now slots) (now values) (lists (now fates) (now whens) (now bys)) ⌝ }
+    requires { ⌜ Ready (byRule (ruleOf room rule)) [] (now slots) (now values) (listsOf (now fates) (now whens) (now bys)) ⌝ }
     requires { ⌜ 1 ≤ room ⌝ }
-    ensures { λ r. ⌜ outcome r (lists (now (fates .exit)) (now (whens .exit)) (now (bys .exit))) ≡ ran (now (slots .entry)) (now (values .entry)) (course (byRule (ruleOf room rule)) first [] (arrivals (now (slots .entry)) (now (values .entry)))) ⌝ }
+    ensures { λ r. ⌜ outcome r (listsAfter fates whens bys) ≡ ran (now (slots .entry)) (now (values .entry)) (course (byRule (ruleOf room rule)) first [] (arrivals (now (slots .entry)) (now (values .entry)))) ⌝ }
 {
     let most = run(slots, values, room, rule, fates, whens, bys);
     RunAnswer::Ran(totals(values, fates, most))
@@ -42,7 +43,7 @@ pub fn greedy(
     whens: &mut [u32],
     bys: &mut [u32],
 ) -> RunAnswer
-    ensures { λ r. ⌜ outcome r (lists (now (fates .exit)) (now (whens .exit)) (now (bys .exit))) ≡ greedyCall (now (slots .entry)) (now (values .entry)) room (lists (now (fates .entry)) (now (whens .entry)) (now (bys .entry))) ⌝ }
+    ensures { λ r. ⌜ outcome r (listsAfter fates whens bys) ≡ greedyCall (now (slots .entry)) (now (values .entry)) room (listsBefore fates whens bys) ⌝ }
 {
     match trace::plain(slots, values, room, fates, whens, bys) {
         Checked::Refused(refusal) => RunAnswer::Refused(refusal),
@@ -60,7 +61,7 @@ pub fn pg(
     whens: &mut [u32],
     bys: &mut [u32],
 ) -> RunAnswer
-    ensures { λ r. ⌜ outcome r (lists (now (fates .exit)) (now (whens .exit)) (now (bys .exit))) ≡ pgCall (now (slots .entry)) (now (values .entry)) room beta (lists (now (fates .entry)) (now (whens .entry)) (now (bys .entry))) ⌝ }
+    ensures { λ r. ⌜ outcome r (listsAfter fates whens bys) ≡ pgCall (now (slots .entry)) (now (values .entry)) room beta (listsBefore fates whens bys) ⌝ }
 {
     match trace::pg(slots, values, room, beta, fates, whens, bys) {
         Checked::Refused(refusal) => RunAnswer::Refused(refusal),

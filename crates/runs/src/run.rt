@@ -1,12 +1,12 @@
 // The run of a rule over an accepted trace.
 ghost use mathlib.Core.List.{[]};
 ghost use Rattle.model.specs.Course.{byRule};
+ghost use Rattle.model.specs.Lent.{listsBefore, listsAfter};
 ghost use Rattle.queue.specs.Choose.{ruleOf};
 ghost use Prim.Native.Nat.{_-_, _≤_, _<_};
 ghost use lib.ListN.{length};
 ghost use Rattle.steps.specs.Window.{windowOf, Within};
 ghost use Rattle.steps.specs.Step.{Stepped, arrival, turning};
-ghost use Rattle.entry.specs.Entry.{lists};
 ghost use Rattle.steps.specs.Run.{Runnable, Ran};
 use model::Packet;
 use model::PacketNumber;
@@ -35,7 +35,7 @@ fn take(
     requires { ⌜ Within w (now numbers) (now values) ⌝ }
     requires { ⌜ w .tail - w .head < length (now values) ⌝ }
     requires { ⌜ 1 ≤ room ⌝ }
-    ensures { λ r. ⌜ Stepped (turning (ruleOf room rule) before (arrival slot p) (windowOf w (now (numbers .entry)) (now (values .entry)))) (lists (now (fates .entry)) (now (whens .entry)) (now (bys .entry))) r (now (numbers .exit)) (now (values .exit)) (lists (now (fates .exit)) (now (whens .exit)) (now (bys .exit))) ⌝ }
+    ensures { λ r. ⌜ Stepped (turning (ruleOf room rule) before (arrival slot p) (windowOf w (now (numbers .entry)) (now (values .entry)))) (listsBefore fates whens bys) r (now (numbers .exit)) (now (values .exit)) (listsAfter fates whens bys) ⌝ }
 {
     let left = send_until(numbers, values, fates, whens, bys, w, before, slot);
     if left.head == left.tail {
@@ -67,7 +67,7 @@ pub fn run(
 ) -> u32
     requires { ⌜ Runnable (byRule (ruleOf room rule)) [] (now slots) (now values) ⌝ }
     requires { ⌜ 1 ≤ room ⌝ }
-    ensures { λ r. ⌜ Ran (byRule (ruleOf room rule)) [] (now (slots .entry)) (now (values .entry)) (lists (now (fates .entry)) (now (whens .entry)) (now (bys .entry))) (lists (now (fates .exit)) (now (whens .exit)) (now (bys .exit))) r ⌝ }
+    ensures { λ r. ⌜ Ran (byRule (ruleOf room rule)) [] (now (slots .entry)) (now (values .entry)) (listsBefore fates whens bys) (listsAfter fates whens bys) r ⌝ }
 {
     let mut numbers = [0u32; PLACES];
     let mut held = [0u32; PLACES];

@@ -2,11 +2,12 @@
 // nothing is written.
 ghost use mathlib.Core.Path.{_≡_};
 ghost use mathlib.Core.List.{[]};
+ghost use Rattle.model.specs.Lent.{listsAfter};
 ghost use Rattle.queue.specs.Choose.{ruleOf};
 ghost use Rattle.steps.specs.Window.{windowOf, Oldest};
 ghost use Rattle.steps.specs.Step.{arrival};
 ghost use Rattle.steps.specs.Guarded.{Guarded, liesWithin, hasPlace};
-ghost use Rattle.steps.specs.Lent.{lentBefore, lentAfter, listsAfter, holding, moved, movedFrom, movedTo, on, arrivingIn, sendingIn};
+ghost use Rattle.steps.specs.Lent.{lentBefore, lentAfter, holding, moved, movedFrom, movedTo, on, arrivingIn, sendingIn};
 use crate::Window;
 use crate::held;
 use crate::step;

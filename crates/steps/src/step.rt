@@ -2,10 +2,11 @@
 ghost use mathlib.Core.Path.{_≡_};
 ghost use Prim.Native.Nat.{_+_, _-_, _<_};
 ghost use lib.ListN.{length};
+ghost use Rattle.model.specs.Lent.{listsAfter};
 ghost use Rattle.queue.specs.Choose.{ruleOf, applied};
 ghost use Rattle.steps.specs.Window.{Within};
 ghost use Rattle.steps.specs.Step.{arrival, sending};
-ghost use Rattle.steps.specs.Lent.{lentBefore, listsAfter, moved, movedFrom, movedTo, on, decidingBy, SentIn};
+ghost use Rattle.steps.specs.Lent.{lentBefore, moved, movedFrom, movedTo, on, decidingBy, SentIn};
 use crate::Window;
 use crate::held::hold;
 use crate::held::lose;

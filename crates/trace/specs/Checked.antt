@@ -21,10 +21,6 @@ abbrev pub verdictOf : Checked → Verdict
 verdictOf Accepted = clear
 verdictOf (Refused f) = record { number = causeNumber (f .cause); place = f .place }
 
--- three lists as one record
-abbrev pub listsOf : List ℕ → List ℕ → List ℕ → Lists
-listsOf fates whens bys = record { fates = fates; whens = whens; bys = bys }
-
 -- MF's parameters
 abbrev pub markingOf : ℕ → ℕ → ℕ → Marking
 markingOf lo hi r = record { lo = lo; hi = hi; r = r }

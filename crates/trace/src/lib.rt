@@ -3,10 +3,12 @@ ghost use mathlib.Core.Path.{_≡_};
 ghost use mathlib.Core.Bool.{true};
 ghost use lib.ListN.{length};
 ghost use Rattle.model.specs.Rules.{clear};
-ghost use Rattle.model.specs.declared.Cause.the-variants.{Parameters};
-ghost use Rattle.model.specs.Refusals.{unless, markingOk, slotOk, packetRefusal, traceRefusal, plainRefusal, pgRefusal, mfRefusal};
-ghost use Rattle.trace.specs.Checked.{verdictOf, listsOf, markingOf, okOf, lengthsEqual, Lengths};
+ghost use Rattle.model.specs.Refusals.{unless as unlessOk, markingOk, slotOk, packetRefusal, traceRefusal, plainRefusal, pgRefusal, mfRefusal};
+ghost use Rattle.model.specs.Lent.{listsBefore};
+ghost use Rattle.trace.specs.Checked.{verdictOf, markingOf, okOf, lengthsEqual, Lengths};
 ghost use Rattle.trace.specs.Fitting.{SlotsFit};
+use checks::ranges::beta_ok;
+use checks::ranges::room_ok;
 use checks::value_ok;
 use checks::values_ok;
 use model::Beta;
@@ -14,8 +16,6 @@ use model::Cause;
 use model::Record;
 use model::Refusal;
 use model::Slot;
-use port::ranges::beta_ok;
-use port::ranges::room_ok;
 
 // What the test of a trace answers.
 pub enum Checked {
@@ -142,7 +142,7 @@ fn packets_or_none(slots: &[u32], values: &[u32], taken: Values) -> Checked
 }
 
 fn lengths_equal(slots: &[u32], values: &[u32], fates: &[u32], whens: &[u32], bys: &[u32]) -> bool
-    ensures { λ r. ⌜ r ≡ lengthsEqual (now (slots .entry)) (now (values .entry)) (listsOf (now (fates .entry)) (now (whens .entry)) (now (bys .entry))) ⌝ }
+    ensures { λ r. ⌜ r ≡ lengthsEqual (now (slots .entry)) (now (values .entry)) (listsBefore fates whens bys) ⌝ }
 {
     let n = slots.len();
     if values.len() != n {
@@ -164,7 +164,18 @@ fn refused(cause: Cause) -> Checked
     Checked::Refused(Refusal { cause, place: 0 })
 }
 
-// Every call on a trace: 1, 2, 3, 4 unless its own parameters pass, then 5 and 6.
+// A call's own test of a parameter.
+fn unless(ok: bool, cause: Cause) -> Checked
+    ensures { λ r. ⌜ verdictOf r ≡ unlessOk ok cause ⌝ }
+{
+    if ok {
+        Checked::Accepted
+    } else {
+        refused(cause)
+    }
+}
+
+// Every call on a trace: 1, 2, 3, what the tests of its own parameters say, then 5 and 6.
 fn in_order(
     slots: &[u32],
     values: &[u32],
@@ -172,10 +183,10 @@ fn in_order(
     fates: &[u32],
     whens: &[u32],
     bys: &[u32],
-    own: bool,
+    own: Checked,
     taken: Values,
 ) -> Checked
-    ensures { λ r. ⌜ verdictOf r ≡ traceRefusal (unless own Parameters) (okOf taken) (now (slots .entry)) (now (values .entry)) room (listsOf (now (fates .entry)) (now (whens .entry)) (now (bys .entry))) ⌝ }
+    ensures { λ r. ⌜ verdictOf r ≡ traceRefusal (verdictOf own) (okOf taken) (now (slots .entry)) (now (values .entry)) room (listsBefore fates whens bys) ⌝ }
 {
     if !lengths_equal(slots, values, fates, whens, bys) {
         return refused(Cause::Lengths);
@@ -186,8 +197,8 @@ fn in_order(
     if !room_ok(room) {
         return refused(Cause::Room);
     }
-    if !own {
-        return refused(Cause::Parameters);
+    if let Checked::Refused(refusal) = own {
+        return Checked::Refused(refusal);
     }
     packets_or_none(slots, values, taken)
 }
@@ -201,7 +212,7 @@ pub fn plain(
     whens: &[u32],
     bys: &[u32],
 ) -> Checked
-    ensures { λ r. ⌜ verdictOf r ≡ plainRefusal (now (slots .entry)) (now (values .entry)) room (listsOf (now (fates .entry)) (now (whens .entry)) (now (bys .entry))) ⌝ }
+    ensures { λ r. ⌜ verdictOf r ≡ plainRefusal (now (slots .entry)) (now (values .entry)) room (listsBefore fates whens bys) ⌝ }
 {
     in_order(
         slots,
@@ -210,7 +221,7 @@ pub fn plain(
         fates,
         whens,
         bys,
-        true,
+        Checked::Accepted,
         Values::InRange,
     )
 }
@@ -224,7 +235,7 @@ pub fn pg(
     whens: &[u32],
     bys: &[u32],
 ) -> Checked
-    ensures { λ r. ⌜ verdictOf r ≡ pgRefusal beta (now (slots .entry)) (now (values .entry)) room (listsOf (now (fates .entry)) (now (whens .entry)) (now (bys .entry))) ⌝ }
+    ensures { λ r. ⌜ verdictOf r ≡ pgRefusal beta (now (slots .entry)) (now (values .entry)) room (listsBefore fates whens bys) ⌝ }
 {
     in_order(
         slots,
@@ -233,7 +244,7 @@ pub fn pg(
         fates,
         whens,
         bys,
-        beta_ok(beta),
+        unless(beta_ok(beta), Cause::Parameters),
         Values::InRange,
     )
 }
@@ -249,7 +260,7 @@ pub fn mf(
     whens: &[u32],
     bys: &[u32],
 ) -> Checked
-    ensures { λ answer. ⌜ verdictOf answer ≡ mfRefusal (markingOf lo hi r) (now (slots .entry)) (now (values .entry)) room (listsOf (now (fates .entry)) (now (whens .entry)) (now (bys .entry))) ⌝ }
+    ensures { λ answer. ⌜ verdictOf answer ≡ mfRefusal (markingOf lo hi r) (now (slots .entry)) (now (values .entry)) room (listsBefore fates whens bys) ⌝ }
 {
     in_order(
         slots,
@@ -258,7 +269,7 @@ pub fn mf(
         fates,
         whens,
         bys,
-        marking_ok(lo, hi, r),
+        unless(marking_ok(lo, hi, r), Cause::Parameters),
         Values::LoOrHi(lo, hi),
     )
 }

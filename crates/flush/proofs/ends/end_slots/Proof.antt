@@ -6,7 +6,7 @@ use lib.ListN.{length}
 use borrow.Author.Tests.{ltb-true, ltb-false}
 use Rattle.model.specs.Policies.MF.{Marked, mfPolicy}
 use Rattle.trace.specs.Checked.{markingOf}
-use Rattle.entry.specs.Entry.{lists}
+use Rattle.model.specs.Record.{listsOf}
 use Rattle.steps.specs.Window.{windowOf}
 use Rattle.marks.specs.Mark.{beside}
 use Rattle.steps.specs.Lent.{Lent, lent}
@@ -27,8 +27,8 @@ Inv-loop numbers₀ values₀ slots marks₀ fates₀ whens₀ bys₀ room lo hi
     × (length fates ≡ length fates₀)
     × (length whens ≡ length whens₀)
     × (length bys ≡ length bys₀)
-    × Left room (markingOf lo hi r) slots (until .0) slot₀ (beside (windowOf (window head₀ tail₀) numbers₀ values₀) marks₀) (lists fates₀ whens₀ bys₀)
-    slot head tail numbers values marks (lists fates whens bys)
+    × Left room (markingOf lo hi r) slots (until .0) slot₀ (beside (windowOf (window head₀ tail₀) numbers₀ values₀) marks₀) (listsOf fates₀ whens₀ bys₀)
+    slot head tail numbers values marks (listsOf fates whens bys)
     × (ends room (markingOf lo hi r) slots (until .0) slot (beside (windowOf (window head tail) numbers values) marks) (lent (window head tail) numbers values)
     ≡ ends room (markingOf lo hi r) slots (until .0) slot₀ (beside (windowOf (window head₀ tail₀) numbers₀ values₀) marks₀) (lent (window head₀ tail₀) numbers₀ values₀))
 
@@ -38,7 +38,7 @@ abbrev μ-loop : tie.MeasureT-loop
 loop-holds : tie.Need-loop-holds Inv-loop μ-loop
 loop-holds c =
     let a = c .before .before .before .before .before .before .before .args in
-    (refl, refl, refl, refl, refl, refl, record { within = c .before .before .before .before .before .before .before .pre; ends = ending-all (mfPolicy (a .room) (markingOf (a .lo) (a .hi) (a .r)) (a .slots .now)) (a .until .0) (a .from .0) (beside (windowOf (a .w) (a .numbers .now) (a .values .now)) (a .marks .now)) (lists (a .fates .now) (a .whens .now) (a .bys .now)) }, refl)
+    (refl, refl, refl, refl, refl, refl, record { within = c .before .before .before .before .before .before .before .pre; ends = ending-all (mfPolicy (a .room) (markingOf (a .lo) (a .hi) (a .r)) (a .slots .now)) (a .until .0) (a .from .0) (beside (windowOf (a .w) (a .numbers .now) (a .values .now)) (a .marks .now)) (listsOf (a .fates .now) (a .whens .now) (a .bys .now)) }, refl)
 
 end-slot-requires : tie.Need-end-slot-requires Inv-loop μ-loop
 end-slot-requires c κs = search needs
@@ -68,9 +68,9 @@ loop-again c =
       end .kept .1 .1 .1 .1 .0 ∙ loop .inv .3,
       end .kept .1 .1 .1 .1 .1 .0 ∙ loop .inv .4,
       end .kept .1 .1 .1 .1 .1 .1 .0 ∙ loop .inv .5,
-      left-turn (a .room) (markingOf (a .lo) (a .hi) (a .r)) (a .slots .now) (a .until .0) (a .from .0) (beside (windowOf (a .w) (a .numbers .now) (a .values .now)) (a .marks .now)) (lists (a .fates .now) (a .whens .now) (a .bys .now))
-          (loop .slot) (loop .head) (loop .tail) (loop .numbers) (loop .values) (loop .marks) (lists (loop .fates) (loop .whens) (loop .bys)) (loop .inv .6) (c .before .before .before .before .before .before .before .before .before .before .before .before .before .before .before .before .before .before .before .before .if1 .taken) some
-          (end .result) (end .last .0) (end .last .1 .0) (end .last .1 .1 .1 .0) (lists (end .last .1 .1 .1 .1 .0) (end .last .1 .1 .1 .1 .1 .0) (end .last .1 .1 .1 .1 .1 .1 .0)) (end .ensures .0),
+      left-turn (a .room) (markingOf (a .lo) (a .hi) (a .r)) (a .slots .now) (a .until .0) (a .from .0) (beside (windowOf (a .w) (a .numbers .now) (a .values .now)) (a .marks .now)) (listsOf (a .fates .now) (a .whens .now) (a .bys .now))
+          (loop .slot) (loop .head) (loop .tail) (loop .numbers) (loop .values) (loop .marks) (listsOf (loop .fates) (loop .whens) (loop .bys)) (loop .inv .6) (c .before .before .before .before .before .before .before .before .before .before .before .before .before .before .before .before .before .before .before .before .if1 .taken) some
+          (end .result) (end .last .0) (end .last .1 .0) (end .last .1 .1 .1 .0) (listsOf (end .last .1 .1 .1 .1 .0) (end .last .1 .1 .1 .1 .1 .0) (end .last .1 .1 .1 .1 .1 .1 .0)) (end .ensures .0),
       went,
     )
 
@@ -96,8 +96,8 @@ returns : tie.Need-returns Inv-loop μ-loop
 returns c =
     let a = c .before .before .before .before .before .before .before .before .before .before .before .args in
     let loop = c .before .before .before .loop in (
-      left-idle (a .room) (markingOf (a .lo) (a .hi) (a .r)) (a .slots .now) (a .until .0) (a .from .0) (beside (windowOf (a .w) (a .numbers .now) (a .values .now)) (a .marks .now)) (lists (a .fates .now) (a .whens .now) (a .bys .now))
-          (loop .slot) (loop .head) (loop .tail) (loop .numbers) (loop .values) (loop .marks) (lists (loop .fates) (loop .whens) (loop .bys)) (loop .inv .6) (ltb-false (loop .head) (loop .tail) (c .if2 .left)),
+      left-idle (a .room) (markingOf (a .lo) (a .hi) (a .r)) (a .slots .now) (a .until .0) (a .from .0) (beside (windowOf (a .w) (a .numbers .now) (a .values .now)) (a .marks .now)) (listsOf (a .fates .now) (a .whens .now) (a .bys .now))
+          (loop .slot) (loop .head) (loop .tail) (loop .numbers) (loop .values) (loop .marks) (listsOf (loop .fates) (loop .whens) (loop .bys)) (loop .inv .6) (ltb-false (loop .head) (loop .tail) (c .if2 .left)),
       sym (ends-idle (a .room) (markingOf (a .lo) (a .hi) (a .r)) (a .slots .now) (a .until .0) (loop .slot) (beside (windowOf (window (loop .head) (loop .tail)) (loop .numbers) (loop .values)) (loop .marks)) (lent (window (loop .head) (loop .tail)) (loop .numbers) (loop .values))
           (omega (arith, window-length (window (loop .head) (loop .tail)) (loop .numbers) (loop .values) (loop .inv .6 .within), ltb-false (loop .head) (loop .tail) (c .if2 .left)))) ∙ loop .inv .7,
     )
@@ -124,8 +124,8 @@ returns-2 : tie.Need-returns-2 Inv-loop μ-loop
 returns-2 c =
     let a = c .before .before .before .before .before .before .before .before .before .before .args in
     let loop = c .before .before .loop in (
-      left-past (a .room) (markingOf (a .lo) (a .hi) (a .r)) (a .slots .now) (a .until .0) (a .from .0) (beside (windowOf (a .w) (a .numbers .now) (a .values .now)) (a .marks .now)) (lists (a .fates .now) (a .whens .now) (a .bys .now))
-          (loop .slot) (loop .head) (loop .tail) (loop .numbers) (loop .values) (loop .marks) (lists (loop .fates) (loop .whens) (loop .bys)) (loop .inv .6) (c .if1 .left),
+      left-past (a .room) (markingOf (a .lo) (a .hi) (a .r)) (a .slots .now) (a .until .0) (a .from .0) (beside (windowOf (a .w) (a .numbers .now) (a .values .now)) (a .marks .now)) (listsOf (a .fates .now) (a .whens .now) (a .bys .now))
+          (loop .slot) (loop .head) (loop .tail) (loop .numbers) (loop .values) (loop .marks) (listsOf (loop .fates) (loop .whens) (loop .bys)) (loop .inv .6) (c .if1 .left),
       sym (ends-past (a .room) (markingOf (a .lo) (a .hi) (a .r)) (a .slots .now) (a .until .0) (loop .slot) (beside (windowOf (window (loop .head) (loop .tail)) (loop .numbers) (loop .values)) (loop .marks)) (lent (window (loop .head) (loop .tail)) (loop .numbers) (loop .values)) (c .if1 .left)) ∙ loop .inv .7,
     )
 

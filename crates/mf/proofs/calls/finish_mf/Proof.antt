@@ -8,7 +8,7 @@ use Rattle.steps.proofs.Places.{first-zeros}
 use lib.ListN.{length}
 use Rattle.model.specs.Policies.MF.{mfPolicy, unmarked}
 use Rattle.trace.specs.Checked.{markingOf}
-use Rattle.entry.specs.Entry.{lists}
+use Rattle.model.specs.Record.{listsOf}
 use Rattle.steps.proofs.Answering.{finished}
 use borrow.Author.Needs.{needs}
 use Rattle.mf.proofs.calls.finish_mf.Statement.{statement}
@@ -47,8 +47,8 @@ returns c =
     let a = start .args in
     let done = c .before .before .before .before .before .before .before .before .before .run-mf in
     finished (mfPolicy (a .room) (markingOf (a .lo) (a .hi) (a .r)) (a .slots .now)) (unmarked (length (a .slots .now))) (a .slots .now) (a .values .now)
-    (lists (a .fates .now) (a .whens .now) (a .bys .now)) (start .pre)
-    (lists (done .last .1 .1 .1 .1 .1 .1 .1 .0) (done .last .1 .1 .1 .1 .1 .1 .1 .1 .0) (done .last .1 .1 .1 .1 .1 .1 .1 .1 .1 .0))
+    (listsOf (a .fates .now) (a .whens .now) (a .bys .now)) (start .pre)
+    (listsOf (done .last .1 .1 .1 .1 .1 .1 .1 .0) (done .last .1 .1 .1 .1 .1 .1 .1 .1 .0) (done .last .1 .1 .1 .1 .1 .1 .1 .1 .1 .0))
     (done .result) (done .ensures) (c .totals .result) (c .totals .ensures)
 
 pub finish-mf-spec : {M : Type 1} → statement M

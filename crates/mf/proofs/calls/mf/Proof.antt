@@ -4,7 +4,7 @@ use Rattle.model.specs.Calls.{ran, mfCall}
 use Rattle.model.specs.Refusals.{mfRefusal}
 use Rattle.model.specs.Policies.MF.{mfRun}
 use Rattle.trace.specs.Checked.{verdictOf, markingOf}
-use Rattle.entry.specs.Entry.{lists}
+use Rattle.model.specs.Record.{listsOf}
 use Rattle.steps.proofs.Answering.{refused, not-refused}
 use Rattle.mf.proofs.Ready.{mf-ready}
 use borrow.Author.Needs.{needs}
@@ -24,7 +24,7 @@ finish-mf-requires : tie.Need-finish-mf-requires
 finish-mf-requires c κs =
     let a = c .before .before .before .before .before .before .before .before .before .before .before .before .before .before .args in
     let accepted = ap verdictOf (sym (c .before .before .before .enum-told .given .1)) ∙ c .before .before .before .before .before .mf .ensures in
-    mf-ready (a .slots .now) (a .values .now) (a .room) (lists (a .fates .now) (a .whens .now) (a .bys .now)) (markingOf (a .lo) (a .hi) (a .r)) accepted
+    mf-ready (a .slots .now) (a .values .now) (a .room) (listsOf (a .fates .now) (a .whens .now) (a .bys .now)) (markingOf (a .lo) (a .hi) (a .r)) accepted
 
 same-length : tie.Need-same-length
 same-length c = search needs
@@ -40,7 +40,7 @@ unfolding mfCall
 returns c =
     let a = c .before .before .before .before .before .before .before .before .before .before .before .before .args in
     let told = c .before .refusal in
-    refused (mfRefusal (markingOf (a .lo) (a .hi) (a .r)) (a .slots .now) (a .values .now) (a .room) (lists (a .fates .now) (a .whens .now) (a .bys .now))) (lists (a .fates .now) (a .whens .now) (a .bys .now)) (ran (a .slots .now) (a .values .now) (mfRun (a .room) (markingOf (a .lo) (a .hi) (a .r)) (a .slots .now) (a .values .now)))
+    refused (mfRefusal (markingOf (a .lo) (a .hi) (a .r)) (a .slots .now) (a .values .now) (a .room) (listsOf (a .fates .now) (a .whens .now) (a .bys .now))) (listsOf (a .fates .now) (a .whens .now) (a .bys .now)) (ran (a .slots .now) (a .values .now) (mfRun (a .room) (markingOf (a .lo) (a .hi) (a .r)) (a .slots .now) (a .values .now)))
     (told .given .0 .0) (ap verdictOf (sym (told .given .1)) ∙ c .before .before .before .mf .ensures)
 
 same-length-4 : tie.Need-same-length-4
@@ -58,7 +58,7 @@ returns-2 c =
     let a = c .before .before .before .before .before .before .before .before .before .before .before .before .before .before .before .before .before .before .before .before .before .args in
     let accepted = ap verdictOf (sym (c .before .before .before .before .before .before .before .before .before .before .enum-told .given .1)) ∙ c .before .before .before .before .before .before .before .before .before .before .before .before .mf .ensures in
     c .before .before .before .before .before .before .finish-mf .ensures
-    ∙ not-refused (mfRefusal (markingOf (a .lo) (a .hi) (a .r)) (a .slots .now) (a .values .now) (a .room) (lists (a .fates .now) (a .whens .now) (a .bys .now))) (lists (a .fates .now) (a .whens .now) (a .bys .now)) (ran (a .slots .now) (a .values .now) (mfRun (a .room) (markingOf (a .lo) (a .hi) (a .r)) (a .slots .now) (a .values .now))) accepted
+    ∙ not-refused (mfRefusal (markingOf (a .lo) (a .hi) (a .r)) (a .slots .now) (a .values .now) (a .room) (listsOf (a .fates .now) (a .whens .now) (a .bys .now))) (listsOf (a .fates .now) (a .whens .now) (a .bys .now)) (ran (a .slots .now) (a .values .now) (mfRun (a .room) (markingOf (a .lo) (a .hi) (a .r)) (a .slots .now) (a .values .now))) accepted
 
 pub mf-spec : {M : Type 1} → statement M
 mf-spec =

@@ -5,7 +5,7 @@ use mathlib.Core.Logic.{⊎-elim}
 use native.Mathlib.Omega.{arith}
 use lib.ListN.{length}
 use Rattle.trace.specs.Checked.{markingOf}
-use Rattle.entry.specs.Entry.{lists}
+use Rattle.model.specs.Record.{listsOf}
 use Rattle.flush.proofs.Leaving.{ends-finish}
 use Rattle.mf.proofs.RunningMF.{Going, going-start, going-turn, going-end}
 use borrow.Author.Needs.{needs}
@@ -18,7 +18,7 @@ Inv-loop slots values room lo hi r marks₀ fates₀ whens₀ bys₀ numbers₀ 
     × (length fates ≡ length fates₀)
     × (length whens ≡ length whens₀)
     × (length bys ≡ length bys₀)
-    × Going room (markingOf lo hi r) slots values (lists fates₀ whens₀ bys₀) numbers held marks (w .head) (w .tail) (last .0) most i (lists fates whens bys)
+    × Going room (markingOf lo hi r) slots values (listsOf fates₀ whens₀ bys₀) numbers held marks (w .head) (w .tail) (last .0) most i (listsOf fates whens bys)
 
 abbrev μ-loop : tie.MeasureT-loop
 μ-loop slots values room lo hi r marks₀ fates₀ whens₀ bys₀ numbers₀ held₀ w₀ last₀ most₀ i₀ marks fates whens bys numbers held w last most i = length slots - i
@@ -27,7 +27,7 @@ loop-holds : tie.Need-loop-holds Inv-loop μ-loop
 loop-holds c =
     let start = c .before .before .before .before .before .before in
     let a = start .args in
-    (refl, refl, refl, refl, going-start (a .room) (markingOf (a .lo) (a .hi) (a .r)) (a .slots .now) (a .values .now) (lists (a .fates .now) (a .whens .now) (a .bys .now)) _ _ (a .marks .now) (search needs) (search needs) (start .pre .1))
+    (refl, refl, refl, refl, going-start (a .room) (markingOf (a .lo) (a .hi) (a .r)) (a .slots .now) (a .values .now) (listsOf (a .fates .now) (a .whens .now) (a .bys .now)) _ _ (a .marks .now) (search needs) (search needs) (start .pre .1))
 
 mul-t21 : tie.Need-mul-t21 Inv-loop μ-loop
 mul-t21 c = search needs
@@ -76,8 +76,8 @@ loop-again c =
       taken .kept .1 .1 .1 .1 .0 ∙ loop .inv .1,
       taken .kept .1 .1 .1 .1 .1 .0 ∙ loop .inv .2,
       taken .kept .1 .1 .1 .1 .1 .1 .0 ∙ loop .inv .3,
-      going-turn (a .room) (markingOf (a .lo) (a .hi) (a .r)) (a .slots .now) (a .values .now) (lists (a .fates .now) (a .whens .now) (a .bys .now)) (start .pre .0) (loop .numbers) (loop .held) (loop .marks) (loop .w .head) (loop .w .tail) (loop .last .0) (loop .most) (loop .i) (lists (loop .fates) (loop .whens) (loop .bys)) (loop .inv .4) (c .before .before .before .before .before .before .before .before .before .before .before .before .before .before .before .before .before .before .before .before .before .loop-test .taken)
-          (taken .result) (taken .last .0) (taken .last .1 .0) (taken .last .1 .1 .1 .0) (lists (taken .last .1 .1 .1 .1 .0) (taken .last .1 .1 .1 .1 .1 .0) (taken .last .1 .1 .1 .1 .1 .1 .0)) (c .if1 .most) (taken .ensures) (taken .kept .1 .0) most,
+      going-turn (a .room) (markingOf (a .lo) (a .hi) (a .r)) (a .slots .now) (a .values .now) (listsOf (a .fates .now) (a .whens .now) (a .bys .now)) (start .pre .0) (loop .numbers) (loop .held) (loop .marks) (loop .w .head) (loop .w .tail) (loop .last .0) (loop .most) (loop .i) (listsOf (loop .fates) (loop .whens) (loop .bys)) (loop .inv .4) (c .before .before .before .before .before .before .before .before .before .before .before .before .before .before .before .before .before .before .before .before .before .loop-test .taken)
+          (taken .result) (taken .last .0) (taken .last .1 .0) (taken .last .1 .1 .1 .0) (listsOf (taken .last .1 .1 .1 .1 .0) (taken .last .1 .1 .1 .1 .1 .0) (taken .last .1 .1 .1 .1 .1 .1 .0)) (c .if1 .most) (taken .ensures) (taken .kept .1 .0) most,
     )
 
 sub-t41 : tie.Need-sub-t41 Inv-loop μ-loop
@@ -119,10 +119,10 @@ returns c =
     let a = start .args in
     let loop = c .before .before .before .before .before .before .before .before .before .before .before .before .before .before .before .before .before .before .before .before .loop in
     let ended = c .before .before .before .before .before .before .before .before .before .before .end-slots in
-    going-end (a .room) (markingOf (a .lo) (a .hi) (a .r)) (a .slots .now) (a .values .now) (lists (a .fates .now) (a .whens .now) (a .bys .now)) (start .pre .0) (loop .numbers) (loop .held) (loop .marks) (loop .w .head) (loop .w .tail) (loop .last .0) (loop .most) (loop .i) (lists (loop .fates) (loop .whens) (loop .bys)) (loop .inv .4) (c .before .before .before .before .before .before .before .before .before .before .before .before .before .before .before .before .before .before .before .loop-test .left)
-    (ended .result) (ended .last .0) (ended .last .1 .0) (ended .last .1 .1 .1 .0) (lists (ended .last .1 .1 .1 .1 .0) (ended .last .1 .1 .1 .1 .1 .0) (ended .last .1 .1 .1 .1 .1 .1 .0)) (record { 0 = loop .last .0 + (loop .w .tail - loop .w .head) }) refl
-    (ends-finish (a .room) (markingOf (a .lo) (a .hi) (a .r)) (a .slots .now) (loop .last) (record { 0 = loop .last .0 + (loop .w .tail - loop .w .head) }) (loop .w) (loop .numbers) (loop .held) (loop .marks) (lists (loop .fates) (loop .whens) (loop .bys)) (loop .inv .4 .within)
-    (ended .result) (ended .last .0) (ended .last .1 .0) (ended .last .1 .1 .1 .0) (lists (ended .last .1 .1 .1 .1 .0) (ended .last .1 .1 .1 .1 .1 .0) (ended .last .1 .1 .1 .1 .1 .1 .0)) (ended .ensures))
+    going-end (a .room) (markingOf (a .lo) (a .hi) (a .r)) (a .slots .now) (a .values .now) (listsOf (a .fates .now) (a .whens .now) (a .bys .now)) (start .pre .0) (loop .numbers) (loop .held) (loop .marks) (loop .w .head) (loop .w .tail) (loop .last .0) (loop .most) (loop .i) (listsOf (loop .fates) (loop .whens) (loop .bys)) (loop .inv .4) (c .before .before .before .before .before .before .before .before .before .before .before .before .before .before .before .before .before .before .before .loop-test .left)
+    (ended .result) (ended .last .0) (ended .last .1 .0) (ended .last .1 .1 .1 .0) (listsOf (ended .last .1 .1 .1 .1 .0) (ended .last .1 .1 .1 .1 .1 .0) (ended .last .1 .1 .1 .1 .1 .1 .0)) (record { 0 = loop .last .0 + (loop .w .tail - loop .w .head) }) refl
+    (ends-finish (a .room) (markingOf (a .lo) (a .hi) (a .r)) (a .slots .now) (loop .last) (record { 0 = loop .last .0 + (loop .w .tail - loop .w .head) }) (loop .w) (loop .numbers) (loop .held) (loop .marks) (listsOf (loop .fates) (loop .whens) (loop .bys)) (loop .inv .4 .within)
+    (ended .result) (ended .last .0) (ended .last .1 .0) (ended .last .1 .1 .1 .0) (listsOf (ended .last .1 .1 .1 .1 .0) (ended .last .1 .1 .1 .1 .1 .0) (ended .last .1 .1 .1 .1 .1 .1 .0)) (ended .ensures))
 
 pub run-mf-spec : {M : Type 1} → statement M
 run-mf-spec =

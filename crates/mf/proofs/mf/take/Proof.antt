@@ -1,6 +1,6 @@
 -- The ends of slots make no queue longer, so there is a place for the arrival.
 use Rattle.trace.specs.Checked.{markingOf}
-use Rattle.entry.specs.Entry.{lists}
+use Rattle.model.specs.Record.{listsOf}
 use Rattle.steps.specs.Window.{windowOf}
 use Rattle.steps.specs.Step.{arrival}
 use Rattle.flush.proofs.Leaving.{ends-finish}
@@ -41,17 +41,17 @@ returns c =
     let start = c .before .before .before .before .before .before .before .before .before .before .before .before .before .before .before .before .before .before .before .before .before .before .before .before .before .before .before .before .before .before .before .before .before .before .before .before .before .before .before .before .before .before in
     let a = start .args in
     let ended = c .before .before .before .before .before .before .before .before .before .before .before .before .before .before .before .before .before .before .before .before .before .before .before .before .before .before .before .before .end-slots in
-    let done = ends-finish (a .room) (markingOf (a .lo) (a .hi) (a .r)) (a .slots .now) (a .before) (a .slot) (a .w) (a .numbers .now) (a .values .now) (a .marks .now) (lists (a .fates .now) (a .whens .now) (a .bys .now)) (start .pre .0)
-    (ended .result) (ended .last .0) (ended .last .1 .0) (ended .last .1 .1 .1 .0) (lists (ended .last .1 .1 .1 .1 .0) (ended .last .1 .1 .1 .1 .1 .0) (ended .last .1 .1 .1 .1 .1 .1 .0)) (ended .ensures) in
+    let done = ends-finish (a .room) (markingOf (a .lo) (a .hi) (a .r)) (a .slots .now) (a .before) (a .slot) (a .w) (a .numbers .now) (a .values .now) (a .marks .now) (listsOf (a .fates .now) (a .whens .now) (a .bys .now)) (start .pre .0)
+    (ended .result) (ended .last .0) (ended .last .1 .0) (ended .last .1 .1 .1 .0) (listsOf (ended .last .1 .1 .1 .1 .0) (ended .last .1 .1 .1 .1 .1 .0) (ended .last .1 .1 .1 .1 .1 .1 .0)) (ended .ensures) in
     let arrived = c .before .before .before .before .before .before .before .before .before .before .arrive in
     let free =
-    ended-free (a .room) (markingOf (a .lo) (a .hi) (a .r)) (a .slots .now) (a .before) (arrival (a .slot) (a .p)) (windowOf (a .w) (a .numbers .now) (a .values .now)) (a .marks .now) (lists (a .fates .now) (a .whens .now) (a .bys .now))
-    (lists (ended .last .1 .1 .1 .1 .0) (ended .last .1 .1 .1 .1 .1 .0) (ended .last .1 .1 .1 .1 .1 .1 .0)) (a .w) (ended .result) (a .numbers .now) (a .values .now) (ended .last .0) (ended .last .1 .0) (ended .last .1 .1 .1 .0)
+    ended-free (a .room) (markingOf (a .lo) (a .hi) (a .r)) (a .slots .now) (a .before) (arrival (a .slot) (a .p)) (windowOf (a .w) (a .numbers .now) (a .values .now)) (a .marks .now) (listsOf (a .fates .now) (a .whens .now) (a .bys .now))
+    (listsOf (ended .last .1 .1 .1 .1 .0) (ended .last .1 .1 .1 .1 .1 .0) (ended .last .1 .1 .1 .1 .1 .1 .0)) (a .w) (ended .result) (a .numbers .now) (a .values .now) (ended .last .0) (ended .last .1 .0) (ended .last .1 .1 .1 .0)
     (start .pre .0) (start .pre .1) done (ended .kept .1 .0) in
-    turned (a .room) (markingOf (a .lo) (a .hi) (a .r)) (a .slots .now) (a .before) (arrival (a .slot) (a .p)) (windowOf (a .w) (a .numbers .now) (a .values .now)) (a .marks .now) (lists (a .fates .now) (a .whens .now) (a .bys .now))
-    (lists (ended .last .1 .1 .1 .1 .0) (ended .last .1 .1 .1 .1 .1 .0) (ended .last .1 .1 .1 .1 .1 .1 .0)) (lists (arrived .last .1 .1 .0) (arrived .last .1 .1 .1 .0) (arrived .last .1 .1 .1 .1 .0))
+    turned (a .room) (markingOf (a .lo) (a .hi) (a .r)) (a .slots .now) (a .before) (arrival (a .slot) (a .p)) (windowOf (a .w) (a .numbers .now) (a .values .now)) (a .marks .now) (listsOf (a .fates .now) (a .whens .now) (a .bys .now))
+    (listsOf (ended .last .1 .1 .1 .1 .0) (ended .last .1 .1 .1 .1 .1 .0) (ended .last .1 .1 .1 .1 .1 .1 .0)) (listsOf (arrived .last .1 .1 .0) (arrived .last .1 .1 .1 .0) (arrived .last .1 .1 .1 .1 .0))
     (ended .result) (arrived .result) (ended .last .0) (ended .last .1 .0) (arrived .last .0) (arrived .last .1 .0) (ended .last .1 .1 .1 .0) done
-    (arrived-steps (ended .result) (ended .last .0) (ended .last .1 .0) (free-place (ended .result) (ended .last .0) (ended .last .1 .0) (done .within) free) (a .room) Greedy (arrival (a .slot) (a .p)) (lists (ended .last .1 .1 .1 .1 .0) (ended .last .1 .1 .1 .1 .1 .0) (ended .last .1 .1 .1 .1 .1 .1 .0)) (lists (arrived .last .1 .1 .0) (arrived .last .1 .1 .1 .0) (arrived .last .1 .1 .1 .1 .0)) (arrived .result) (arrived .last .0) (arrived .last .1 .0) (arrived .ensures))
+    (arrived-steps (ended .result) (ended .last .0) (ended .last .1 .0) (free-place (ended .result) (ended .last .0) (ended .last .1 .0) (done .within) free) (a .room) Greedy (arrival (a .slot) (a .p)) (listsOf (ended .last .1 .1 .1 .1 .0) (ended .last .1 .1 .1 .1 .1 .0) (ended .last .1 .1 .1 .1 .1 .1 .0)) (listsOf (arrived .last .1 .1 .0) (arrived .last .1 .1 .1 .0) (arrived .last .1 .1 .1 .1 .0)) (arrived .result) (arrived .last .0) (arrived .last .1 .0) (arrived .ensures))
 
 pub take-spec : {M : Type 1} → statement M
 take-spec =

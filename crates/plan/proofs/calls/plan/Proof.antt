@@ -3,7 +3,7 @@ use borrow.Author.Needs.{needs}
 use mathlib.Core.Path.{refl, sym, ap, _∙_}
 use lib.ListN.{length}
 use lib.Seq.{length-take-le, take-at}
-use Rattle.entry.specs.Entry.{lists}
+use Rattle.model.specs.Record.{listsOf}
 use Rattle.kept.proofs.Planned.{told, part-fits}
 use Rattle.plan.proofs.Ready.{plan-refused, few, plan-runnable, plan-answered}
 use Rattle.plan.proofs.calls.plan.Statement.{statement}
@@ -32,7 +32,7 @@ returns : tie.Need-returns
 returns c =
     let a = c .before .before .before .before .before .before .before .before .before .before .before .before .args in
     let answer = c .before .tested .given in
-    plan-refused (a .slots .now) (a .values .now) (a .room) (lists (a .fates .now) (a .whens .now) (a .bys .now)) (answer .0 .0) (told (a .slots .now) (a .values .now) (a .room) (lists (a .fates .now) (a .whens .now) (a .bys .now)) (answer .1) (c .before .before .before .plain .ensures))
+    plan-refused (a .slots .now) (a .values .now) (a .room) (listsOf (a .fates .now) (a .whens .now) (a .bys .now)) (answer .0 .0) (told (a .slots .now) (a .values .now) (a .room) (listsOf (a .fates .now) (a .whens .now) (a .bys .now)) (answer .1) (c .before .before .before .plain .ensures))
 
 enum-told : tie.Need-enum-told
 enum-told c = search needs
@@ -41,16 +41,16 @@ array-borrow-prefix-kept : tie.Need-array-borrow-prefix-kept
 array-borrow-prefix-kept c =
     let a = c .before .before .before .before .before .before .before .before .before .before .before .args in
     let n = length (a .slots .now) in
-    let clear = told (a .slots .now) (a .values .now) (a .room) (lists (a .fates .now) (a .whens .now) (a .bys .now)) (c .enum-told .given .1) (c .before .before .plain .ensures) in
-    let less = few (a .slots .now) (a .values .now) (a .room) (lists (a .fates .now) (a .whens .now) (a .bys .now)) clear in
+    let clear = told (a .slots .now) (a .values .now) (a .room) (listsOf (a .fates .now) (a .whens .now) (a .bys .now)) (c .enum-told .given .1) (c .before .before .plain .ensures) in
+    let less = few (a .slots .now) (a .values .now) (a .room) (listsOf (a .fates .now) (a .whens .now) (a .bys .now)) clear in
     less
 
 slice-aggregate-keep : tie.Need-slice-aggregate-keep
 slice-aggregate-keep c =
     let a = c .before .before .before .before .before .before .before .before .before .before .before .before .args in
     let n = length (a .slots .now) in
-    let clear = told (a .slots .now) (a .values .now) (a .room) (lists (a .fates .now) (a .whens .now) (a .bys .now)) (c .before .enum-told .given .1) (c .before .before .before .plain .ensures) in
-    let less = few (a .slots .now) (a .values .now) (a .room) (lists (a .fates .now) (a .whens .now) (a .bys .now)) clear in
+    let clear = told (a .slots .now) (a .values .now) (a .room) (listsOf (a .fates .now) (a .whens .now) (a .bys .now)) (c .before .enum-told .given .1) (c .before .before .before .plain .ensures) in
+    let less = few (a .slots .now) (a .values .now) (a .room) (listsOf (a .fates .now) (a .whens .now) (a .bys .now)) clear in
     sym (length-take-le n _ less)
 
 keep-requires : tie.Need-keep-requires
@@ -61,8 +61,8 @@ array-share-prefix-kept : tie.Need-array-share-prefix-kept
 array-share-prefix-kept c =
     let a = c .before .before .before .before .before .before .before .before .before .before .before .before .before .before .args in
     let n = length (a .slots .now) in
-    let clear = told (a .slots .now) (a .values .now) (a .room) (lists (a .fates .now) (a .whens .now) (a .bys .now)) (c .before .before .before .enum-told .given .1) (c .before .before .before .before .before .plain .ensures) in
-    let less = few (a .slots .now) (a .values .now) (a .room) (lists (a .fates .now) (a .whens .now) (a .bys .now)) clear in
+    let clear = told (a .slots .now) (a .values .now) (a .room) (listsOf (a .fates .now) (a .whens .now) (a .bys .now)) (c .before .before .before .enum-told .given .1) (c .before .before .before .before .before .plain .ensures) in
+    let less = few (a .slots .now) (a .values .now) (a .room) (listsOf (a .fates .now) (a .whens .now) (a .bys .now)) clear in
     let keep = c .before .keep in
     let zeros = length-take-le n _ less in
     let long = keep .kept .1 .1 .1 .0 ∙ zeros in
@@ -72,8 +72,8 @@ slice-aggregate-run : tie.Need-slice-aggregate-run
 slice-aggregate-run c =
     let a = c .before .before .before .before .before .before .before .before .before .before .before .before .before .before .before .args in
     let n = length (a .slots .now) in
-    let clear = told (a .slots .now) (a .values .now) (a .room) (lists (a .fates .now) (a .whens .now) (a .bys .now)) (c .before .before .before .before .enum-told .given .1) (c .before .before .before .before .before .before .plain .ensures) in
-    let less = few (a .slots .now) (a .values .now) (a .room) (lists (a .fates .now) (a .whens .now) (a .bys .now)) clear in
+    let clear = told (a .slots .now) (a .values .now) (a .room) (listsOf (a .fates .now) (a .whens .now) (a .bys .now)) (c .before .before .before .before .enum-told .given .1) (c .before .before .before .before .before .before .plain .ensures) in
+    let less = few (a .slots .now) (a .values .now) (a .room) (listsOf (a .fates .now) (a .whens .now) (a .bys .now)) clear in
     let keep = c .before .before .keep in
     let zeros = length-take-le n _ less in
     let long = keep .kept .1 .1 .1 .0 ∙ zeros in
@@ -83,13 +83,13 @@ run-requires : tie.Need-run-requires
 run-requires c κs =
     let a = c .before .before .before .before .before .before .before .before .before .before .before .before .before .before .before .before .before .before .args in
     let n = length (a .slots .now) in
-    let clear = told (a .slots .now) (a .values .now) (a .room) (lists (a .fates .now) (a .whens .now) (a .bys .now)) (c .before .before .before .before .before .before .before .enum-told .given .1) (c .before .before .before .before .before .before .before .before .before .plain .ensures) in
-    let less = few (a .slots .now) (a .values .now) (a .room) (lists (a .fates .now) (a .whens .now) (a .bys .now)) clear in
+    let clear = told (a .slots .now) (a .values .now) (a .room) (listsOf (a .fates .now) (a .whens .now) (a .bys .now)) (c .before .before .before .before .before .before .before .enum-told .given .1) (c .before .before .before .before .before .before .before .before .before .plain .ensures) in
+    let less = few (a .slots .now) (a .values .now) (a .room) (listsOf (a .fates .now) (a .whens .now) (a .bys .now)) clear in
     let keep = c .before .before .before .before .before .keep in
     let zeros = length-take-le n _ less in
     let long = keep .kept .1 .1 .1 .0 ∙ zeros in
     let part = take-at (keep .last .1 .1 .1 .0) _ n long in
-    (plan-runnable (a .slots .now) (a .values .now) (a .room) (lists (a .fates .now) (a .whens .now) (a .bys .now)) clear _ (keep .last .1 .1 .1 .0) _ zeros part (keep .ensures), ap length part ∙ long)
+    (plan-runnable (a .slots .now) (a .values .now) (a .room) (listsOf (a .fates .now) (a .whens .now) (a .bys .now)) clear _ (keep .last .1 .1 .1 .0) _ zeros part (keep .ensures), ap length part ∙ long)
 
 totals-requires : tie.Need-totals-requires
 totals-requires c κs =
@@ -111,15 +111,15 @@ returns-2 : tie.Need-returns-2
 returns-2 c =
     let a = c .before .before .before .before .before .before .before .before .before .before .before .before .before .before .before .before .before .before .before .before .before .before .before .before .before .before .before .args in
     let n = length (a .slots .now) in
-    let clear = told (a .slots .now) (a .values .now) (a .room) (lists (a .fates .now) (a .whens .now) (a .bys .now)) (c .before .before .before .before .before .before .before .before .before .before .before .before .before .before .before .before .enum-told .given .1) (c .before .before .before .before .before .before .before .before .before .before .before .before .before .before .before .before .before .before .plain .ensures) in
-    let less = few (a .slots .now) (a .values .now) (a .room) (lists (a .fates .now) (a .whens .now) (a .bys .now)) clear in
+    let clear = told (a .slots .now) (a .values .now) (a .room) (listsOf (a .fates .now) (a .whens .now) (a .bys .now)) (c .before .before .before .before .before .before .before .before .before .before .before .before .before .before .before .before .enum-told .given .1) (c .before .before .before .before .before .before .before .before .before .before .before .before .before .before .before .before .before .before .plain .ensures) in
+    let less = few (a .slots .now) (a .values .now) (a .room) (listsOf (a .fates .now) (a .whens .now) (a .bys .now)) clear in
     let keep = c .before .before .before .before .before .before .before .before .before .before .before .before .before .before .keep in
     let zeros = length-take-le n _ less in
     let long = keep .kept .1 .1 .1 .0 ∙ zeros in
     let part = take-at (keep .last .1 .1 .1 .0) _ n long in
     let ran = c .before .before .before .before .before .before .before .before .run in
-    plan-answered (a .slots .now) (a .values .now) (a .room) (lists (a .fates .now) (a .whens .now) (a .bys .now)) clear _ (keep .last .1 .1 .1 .0) _ zeros part (keep .ensures)
-    (lists (ran .last .1 .1 .1 .0) (ran .last .1 .1 .1 .1 .0) (ran .last .1 .1 .1 .1 .1 .0)) (ran .result) (ran .ensures) (c .totals .result) (c .totals .ensures)
+    plan-answered (a .slots .now) (a .values .now) (a .room) (listsOf (a .fates .now) (a .whens .now) (a .bys .now)) clear _ (keep .last .1 .1 .1 .0) _ zeros part (keep .ensures)
+    (listsOf (ran .last .1 .1 .1 .0) (ran .last .1 .1 .1 .1 .0) (ran .last .1 .1 .1 .1 .1 .0)) (ran .result) (ran .ensures) (c .totals .result) (c .totals .ensures)
 
 pub plan-spec : {M : Type 1} → statement M
 plan-spec =

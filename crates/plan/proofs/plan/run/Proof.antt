@@ -6,7 +6,7 @@ use mathlib.Core.Logic.{⊎-elim}
 use native.Mathlib.Omega.{arith}
 use lib.ListN.{length}
 use Rattle.model.specs.Policies.Plan.{keptRule}
-use Rattle.entry.specs.Entry.{lists}
+use Rattle.model.specs.Record.{listsOf}
 use Rattle.steps.proofs.Running.{Going, going-start, going-free}
 use Rattle.plan.proofs.Planning.{run-turn, run-end}
 use Rattle.plan.proofs.plan.run.Statement.{statement}
@@ -17,7 +17,7 @@ Inv-loop slots values kept fates₀ whens₀ bys₀ numbers₀ held₀ w₀ last
     (length fates ≡ length fates₀)
     × (length whens ≡ length whens₀)
     × (length bys ≡ length bys₀)
-    × Going (keptRule kept) slots values (lists fates₀ whens₀ bys₀) numbers held (w .head) (w .tail) (last .0) most i (lists fates whens bys)
+    × Going (keptRule kept) slots values (listsOf fates₀ whens₀ bys₀) numbers held (w .head) (w .tail) (last .0) most i (listsOf fates whens bys)
 
 abbrev μ-loop : tie.MeasureT-loop
 μ-loop slots values kept fates₀ whens₀ bys₀ numbers₀ held₀ w₀ last₀ most₀ i₀ fates whens bys numbers held w last most i =
@@ -87,10 +87,10 @@ loop-again c =
       taken .kept .1 .1 .0 ∙ loop .inv .0,
       taken .kept .1 .1 .1 .0 ∙ loop .inv .1,
       taken .kept .1 .1 .1 .1 .0 ∙ loop .inv .2,
-      run-turn (a .slots .now) (a .values .now) (a .kept .now) (lists (a .fates .now) (a .whens .now) (a .bys .now)) (start .pre .0)
-          (loop .numbers) (loop .held) (loop .w) (loop .last) (loop .most) (loop .i) (lists (loop .fates) (loop .whens) (loop .bys)) (loop .inv .3)
+      run-turn (a .slots .now) (a .values .now) (a .kept .now) (listsOf (a .fates .now) (a .whens .now) (a .bys .now)) (start .pre .0)
+          (loop .numbers) (loop .held) (loop .w) (loop .last) (loop .most) (loop .i) (listsOf (loop .fates) (loop .whens) (loop .bys)) (loop .inv .3)
           (c .before .before .before .before .before .before .before .before .before .before .before .before .before .before .before .before .before .before .before .loop-test .taken) (taken .result) (taken .last .0) (taken .last .1 .0)
-          (lists (taken .last .1 .1 .0) (taken .last .1 .1 .1 .0) (taken .last .1 .1 .1 .1 .0)) (c .if1 .most) (taken .ensures) (taken .kept .1 .0) most,
+          (listsOf (taken .last .1 .1 .0) (taken .last .1 .1 .1 .0) (taken .last .1 .1 .1 .1 .0)) (c .if1 .most) (taken .ensures) (taken .kept .1 .0) most,
     )
 
 sub-t37 : tie.Need-sub-t37 Inv-loop μ-loop
@@ -136,9 +136,9 @@ returns c =
     let loop = c .before .before .before .before .before .before .before .before .before .before .before .before .before .before .before .loop in
     let sent = c .before .before .before .before .before .before .send-until in
     let a = start .args in
-    run-end (a .slots .now) (a .values .now) (a .kept .now) (lists (a .fates .now) (a .whens .now) (a .bys .now)) (start .pre .0)
-    (loop .numbers) (loop .held) (loop .w) (loop .last) (loop .most) (loop .i) (lists (loop .fates) (loop .whens) (loop .bys)) (loop .inv .3)
-    (c .before .before .before .before .before .before .before .before .before .before .before .before .before .before .loop-test .left) (sent .result) (lists (sent .last .1 .1 .0) (sent .last .1 .1 .1 .0) (sent .last .1 .1 .1 .1 .0)) _ refl (sent .ensures)
+    run-end (a .slots .now) (a .values .now) (a .kept .now) (listsOf (a .fates .now) (a .whens .now) (a .bys .now)) (start .pre .0)
+    (loop .numbers) (loop .held) (loop .w) (loop .last) (loop .most) (loop .i) (listsOf (loop .fates) (loop .whens) (loop .bys)) (loop .inv .3)
+    (c .before .before .before .before .before .before .before .before .before .before .before .before .before .before .loop-test .left) (sent .result) (listsOf (sent .last .1 .1 .0) (sent .last .1 .1 .1 .0) (sent .last .1 .1 .1 .1 .0)) _ refl (sent .ensures)
 
 pub run-spec : {M : Type 1} → statement M
 run-spec =

@@ -1,6 +1,6 @@
 -- The sendings and the arrival are one turn of the course.
 use mathlib.Core.Path.{refl, _∙_}
-use Rattle.entry.specs.Entry.{lists}
+use Rattle.model.specs.Record.{listsOf}
 use Rattle.plan.proofs.Planning.{take-held, take-rejected}
 use Rattle.plan.proofs.plan.take.Statement.{statement}
 use Rattle.plan.proofs.plan.take.Tie as tie
@@ -39,8 +39,8 @@ returns c =
     let a = start .args in
     let sent = c .before .before .before .before .before .before .before .before .before .before .before .before .before .before .send-until in
     let held = c .before .before .before .before .hold in
-    take-held (a .w) (a .numbers .now) (a .values .now) (start .pre .0) (start .pre .1) (a .before) (a .slot) (a .p) (lists (a .fates .now) (a .whens .now) (a .bys .now))
-    (lists (sent .last .1 .1 .0) (sent .last .1 .1 .1 .0) (sent .last .1 .1 .1 .1 .0)) (sent .result) (sent .ensures)
+    take-held (a .w) (a .numbers .now) (a .values .now) (start .pre .0) (start .pre .1) (a .before) (a .slot) (a .p) (listsOf (a .fates .now) (a .whens .now) (a .bys .now))
+    (listsOf (sent .last .1 .1 .0) (sent .last .1 .1 .1 .0) (sent .last .1 .1 .1 .1 .0)) (sent .result) (sent .ensures)
     (a .kept) (c .before .before .before .before .before .before .before .if1 .taken) (held .result) (held .last .0) (held .last .1 .0) (held .ensures)
 
 enter-requires : tie.Need-enter-requires
@@ -73,9 +73,9 @@ returns-2 c =
     let a = start .args in
     let sent = c .before .before .before .before .before .before .before .before .before .before .before .before .before .before .before .before .before .send-until in
     let entered = c .before .before .before .before .before .before .enter in
-    take-rejected (a .w) (a .numbers .now) (a .values .now) (start .pre .0) (start .pre .1) (a .before) (a .slot) (a .p) (lists (a .fates .now) (a .whens .now) (a .bys .now))
-    (lists (sent .last .1 .1 .0) (sent .last .1 .1 .1 .0) (sent .last .1 .1 .1 .1 .0)) (sent .result) (sent .ensures)
-    (a .kept) (c .before .before .before .before .before .before .before .before .before .before .if1 .left) (lists (entered .last .0) (entered .last .1 .0) (entered .last .1 .1 .0)) (entered .ensures)
+    take-rejected (a .w) (a .numbers .now) (a .values .now) (start .pre .0) (start .pre .1) (a .before) (a .slot) (a .p) (listsOf (a .fates .now) (a .whens .now) (a .bys .now))
+    (listsOf (sent .last .1 .1 .0) (sent .last .1 .1 .1 .0) (sent .last .1 .1 .1 .1 .0)) (sent .result) (sent .ensures)
+    (a .kept) (c .before .before .before .before .before .before .before .before .before .before .if1 .left) (listsOf (entered .last .0) (entered .last .1 .0) (entered .last .1 .1 .0)) (entered .ensures)
 
 pub take-spec : {M : Type 1} → statement M
 take-spec =

@@ -1,7 +1,7 @@
 use mathlib.Core.List.{[]}
 use Rattle.model.specs.Course.{byRule}
 use Rattle.queue.specs.Choose.{ruleOf}
-use Rattle.entry.specs.Entry.{lists}
+use Rattle.model.specs.Record.{listsOf}
 use Rattle.steps.proofs.Answering.{finished}
 use borrow.Author.Needs.{needs}
 use Rattle.runs.proofs.calls.finish.Statement.{statement}
@@ -27,8 +27,8 @@ returns c =
     let start = c .before .before .before .before .before .before .before .before .before .before .before .before .before .before .before .before .before in
     let a = start .args in
     let done = c .before .before .before .before .before .before .before .before .run in
-    finished (byRule (ruleOf (a .room) (a .rule))) [] (a .slots .now) (a .values .now) (lists (a .fates .now) (a .whens .now) (a .bys .now)) (start .pre .0)
-    (lists (done .last .1 .1 .1 .1 .0) (done .last .1 .1 .1 .1 .1 .0) (done .last .1 .1 .1 .1 .1 .1 .0)) (done .result) (done .ensures) (c .totals .result) (c .totals .ensures)
+    finished (byRule (ruleOf (a .room) (a .rule))) [] (a .slots .now) (a .values .now) (listsOf (a .fates .now) (a .whens .now) (a .bys .now)) (start .pre .0)
+    (listsOf (done .last .1 .1 .1 .1 .0) (done .last .1 .1 .1 .1 .1 .0) (done .last .1 .1 .1 .1 .1 .1 .0)) (done .result) (done .ensures) (c .totals .result) (c .totals .ensures)
 
 pub finish-spec : {M : Type 1} → statement M
 finish-spec =

@@ -5,7 +5,7 @@ use mathlib.Core.Logic.{⊎-elim}
 use native.Mathlib.Omega.{arith}
 use lib.ListN.{length}
 use Rattle.queue.specs.Choose.{ruleOf}
-use Rattle.entry.specs.Entry.{lists}
+use Rattle.model.specs.Record.{listsOf}
 use Rattle.steps.proofs.Lending.{sent-steps}
 use Rattle.steps.proofs.Running.{Going, going-start, going-turn, going-end}
 use borrow.Author.Needs.{needs}
@@ -17,7 +17,7 @@ Inv-loop slots values room rule fates₀ whens₀ bys₀ numbers₀ held₀ w₀
     (length fates ≡ length fates₀)
     × (length whens ≡ length whens₀)
     × (length bys ≡ length bys₀)
-    × Going (ruleOf room rule) slots values (lists fates₀ whens₀ bys₀) numbers held (w .head) (w .tail) (last .0) most i (lists fates whens bys)
+    × Going (ruleOf room rule) slots values (listsOf fates₀ whens₀ bys₀) numbers held (w .head) (w .tail) (last .0) most i (listsOf fates whens bys)
 
 abbrev μ-loop : tie.MeasureT-loop
 μ-loop slots values room rule fates₀ whens₀ bys₀ numbers₀ held₀ w₀ last₀ most₀ i₀ fates whens bys numbers held w last most i = length slots - i
@@ -25,7 +25,7 @@ abbrev μ-loop : tie.MeasureT-loop
 loop-holds : tie.Need-loop-holds Inv-loop μ-loop
 loop-holds c =
     let a = c .before .before .before .before .before .args in
-    (refl, refl, refl, going-start (ruleOf (a .room) (a .rule)) (a .slots .now) (a .values .now) (lists (a .fates .now) (a .whens .now) (a .bys .now)) _ _ (search needs) (search needs))
+    (refl, refl, refl, going-start (ruleOf (a .room) (a .rule)) (a .slots .now) (a .values .now) (listsOf (a .fates .now) (a .whens .now) (a .bys .now)) _ _ (search needs) (search needs))
 
 mul-t18 : tie.Need-mul-t18 Inv-loop μ-loop
 mul-t18 c = search needs
@@ -73,9 +73,9 @@ loop-again c =
       taken .kept .1 .1 .0 ∙ loop .inv .0,
       taken .kept .1 .1 .1 .0 ∙ loop .inv .1,
       taken .kept .1 .1 .1 .1 .0 ∙ loop .inv .2,
-      going-turn (ruleOf (a .room) (a .rule)) (a .slots .now) (a .values .now) (lists (a .fates .now) (a .whens .now) (a .bys .now)) (start .pre .0) (loop .numbers) (loop .held) (loop .w .head) (loop .w .tail) (loop .last .0) (loop .most)
-          (loop .i) (lists (loop .fates) (loop .whens) (loop .bys)) (loop .inv .3) (c .before .before .before .before .before .before .before .before .before .before .before .before .before .before .before .before .before .before .loop-test .taken) (taken .result) (taken .last .0) (taken .last .1 .0)
-          (lists (taken .last .1 .1 .0) (taken .last .1 .1 .1 .0) (taken .last .1 .1 .1 .1 .0)) (c .if1 .most) (taken .ensures) (taken .kept .1 .0) most,
+      going-turn (ruleOf (a .room) (a .rule)) (a .slots .now) (a .values .now) (listsOf (a .fates .now) (a .whens .now) (a .bys .now)) (start .pre .0) (loop .numbers) (loop .held) (loop .w .head) (loop .w .tail) (loop .last .0) (loop .most)
+          (loop .i) (listsOf (loop .fates) (loop .whens) (loop .bys)) (loop .inv .3) (c .before .before .before .before .before .before .before .before .before .before .before .before .before .before .before .before .before .before .loop-test .taken) (taken .result) (taken .last .0) (taken .last .1 .0)
+          (listsOf (taken .last .1 .1 .0) (taken .last .1 .1 .1 .0) (taken .last .1 .1 .1 .1 .0)) (c .if1 .most) (taken .ensures) (taken .kept .1 .0) most,
     )
 
 sub-t36 : tie.Need-sub-t36 Inv-loop μ-loop
@@ -114,9 +114,9 @@ returns c =
     let a = start .args in
     let loop = c .before .before .before .before .before .before .before .before .before .before .before .before .before .before .before .loop in
     let sent = c .before .before .before .before .before .before .send-until in
-    going-end (ruleOf (a .room) (a .rule)) (a .slots .now) (a .values .now) (lists (a .fates .now) (a .whens .now) (a .bys .now)) (start .pre .0) (loop .numbers) (loop .held) (loop .w .head) (loop .w .tail) (loop .last .0) (loop .most) (loop .i) (lists (loop .fates) (loop .whens) (loop .bys))
-    (loop .inv .3) (c .before .before .before .before .before .before .before .before .before .before .before .before .before .before .loop-test .left) (sent .result) (lists (sent .last .1 .1 .0) (sent .last .1 .1 .1 .0) (sent .last .1 .1 .1 .1 .0)) _ refl
-    (sent-steps (loop .w) (loop .numbers) (loop .held) (loop .inv .3 .within) (loop .last) (record { 0 = loop .last .0 + (loop .w .tail - loop .w .head) }) (lists (loop .fates) (loop .whens) (loop .bys)) (lists (sent .last .1 .1 .0) (sent .last .1 .1 .1 .0) (sent .last .1 .1 .1 .1 .0)) (sent .result) (sent .ensures))
+    going-end (ruleOf (a .room) (a .rule)) (a .slots .now) (a .values .now) (listsOf (a .fates .now) (a .whens .now) (a .bys .now)) (start .pre .0) (loop .numbers) (loop .held) (loop .w .head) (loop .w .tail) (loop .last .0) (loop .most) (loop .i) (listsOf (loop .fates) (loop .whens) (loop .bys))
+    (loop .inv .3) (c .before .before .before .before .before .before .before .before .before .before .before .before .before .before .loop-test .left) (sent .result) (listsOf (sent .last .1 .1 .0) (sent .last .1 .1 .1 .0) (sent .last .1 .1 .1 .1 .0)) _ refl
+    (sent-steps (loop .w) (loop .numbers) (loop .held) (loop .inv .3 .within) (loop .last) (record { 0 = loop .last .0 + (loop .w .tail - loop .w .head) }) (listsOf (loop .fates) (loop .whens) (loop .bys)) (listsOf (sent .last .1 .1 .0) (sent .last .1 .1 .1 .0) (sent .last .1 .1 .1 .1 .0)) (sent .result) (sent .ensures))
 
 pub run-spec : {M : Type 1} → statement M
 run-spec =

@@ -8,7 +8,7 @@ use Rattle.steps.specs.Window.{windowOf}
 use Rattle.steps.specs.Step.{arrival}
 use Rattle.steps.proofs.Arriving.{window-length, held, by-choice}
 use Rattle.steps.proofs.Turning.{sent-free, turned}
-use Rattle.entry.specs.Entry.{lists}
+use Rattle.model.specs.Record.{listsOf}
 use Rattle.steps.proofs.Guarding.{free-place}
 use Rattle.steps.proofs.Lending.{held-holds, arrived-steps, sent-steps}
 use Rattle.runs.proofs.Empty.{holds-at-once}
@@ -42,8 +42,8 @@ returns c =
     let start = c .before .before .before .before .before .before .before .before .before .before .before .before .before .before .before .before .before .before .before .before .before .before .before .before .before .before in
     let a = start .args in
     let sent = c .before .before .before .before .before .before .before .before .before .before .before .before .before .before .before .send-until in
-    let between = lists (sent .last .1 .1 .0) (sent .last .1 .1 .1 .0) (sent .last .1 .1 .1 .1 .0) in
-    let stepped = sent-steps (a .w) (a .numbers .now) (a .values .now) (start .pre .0) (a .before) (a .slot) (lists (a .fates .now) (a .whens .now) (a .bys .now)) between (sent .result) (sent .ensures) in
+    let between = listsOf (sent .last .1 .1 .0) (sent .last .1 .1 .1 .0) (sent .last .1 .1 .1 .1 .0) in
+    let stepped = sent-steps (a .w) (a .numbers .now) (a .values .now) (start .pre .0) (a .before) (a .slot) (listsOf (a .fates .now) (a .whens .now) (a .bys .now)) between (sent .result) (sent .ensures) in
     let free = free-place (sent .result) (a .numbers .now) (a .values .now) (stepped .within) (sent-free (a .before) (a .slot) (a .w) (a .numbers .now) (a .values .now) _ _ (sent .result) (start .pre .0) (start .pre .1 .0) stepped) in
     let holding = c .before .before .before .before .hold in
     let queue = windowOf (sent .result) (a .numbers .now) (a .values .now) in
@@ -77,13 +77,13 @@ returns-2 c =
     let start = c .before .before .before .before .before .before .before .before .before .before .before .before .before .before .before .before .before .before .before .before .before .before .before .before .before .before .before .before .before .before .before .before .before .before .before in
     let a = start .args in
     let sent = c .before .before .before .before .before .before .before .before .before .before .before .before .before .before .before .before .before .before .before .before .before .before .before .before .send-until in
-    let between = lists (sent .last .1 .1 .0) (sent .last .1 .1 .1 .0) (sent .last .1 .1 .1 .1 .0) in
-    let stepped = sent-steps (a .w) (a .numbers .now) (a .values .now) (start .pre .0) (a .before) (a .slot) (lists (a .fates .now) (a .whens .now) (a .bys .now)) between (sent .result) (sent .ensures) in
+    let between = listsOf (sent .last .1 .1 .0) (sent .last .1 .1 .1 .0) (sent .last .1 .1 .1 .1 .0) in
+    let stepped = sent-steps (a .w) (a .numbers .now) (a .values .now) (start .pre .0) (a .before) (a .slot) (listsOf (a .fates .now) (a .whens .now) (a .bys .now)) between (sent .result) (sent .ensures) in
     let free = free-place (sent .result) (a .numbers .now) (a .values .now) (stepped .within) (sent-free (a .before) (a .slot) (a .w) (a .numbers .now) (a .values .now) _ _ (sent .result) (start .pre .0) (start .pre .1 .0) stepped) in
     let arrived = c .before .before .before .before .before .before .before .before .before .before .arrive in
     turned (ruleOf (a .room) (a .rule)) (a .before) (arrival (a .slot) (a .p)) (windowOf (a .w) (a .numbers .now) (a .values .now)) _ _ _ (sent .result) (arrived .result)
     (a .numbers .now) (a .values .now) (arrived .last .0) (arrived .last .1 .0) stepped
-    (arrived-steps (sent .result) (a .numbers .now) (a .values .now) free (a .room) (a .rule) (arrival (a .slot) (a .p)) between (lists (arrived .last .1 .1 .0) (arrived .last .1 .1 .1 .0) (arrived .last .1 .1 .1 .1 .0)) (arrived .result) (arrived .last .0) (arrived .last .1 .0) (arrived .ensures))
+    (arrived-steps (sent .result) (a .numbers .now) (a .values .now) free (a .room) (a .rule) (arrival (a .slot) (a .p)) between (listsOf (arrived .last .1 .1 .0) (arrived .last .1 .1 .1 .0) (arrived .last .1 .1 .1 .1 .0)) (arrived .result) (arrived .last .0) (arrived .last .1 .0) (arrived .ensures))
 
 pub take-spec : {M : Type 1} → statement M
 take-spec = tie.close (tie.spec send-until-requires hold-requires same-length same-length-2 same-length-3 same-length-4 same-length-5 returns arrive-requires same-length-6 same-length-7 same-length-8 same-length-9 same-length-10 returns-2)

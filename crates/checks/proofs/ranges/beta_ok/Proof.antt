@@ -1,8 +1,8 @@
--- `port::ranges::beta_ok` meets its contract: at each return the tests that led there say which part of `betaOk` is false, or that only the last is left.
+-- `checks::ranges::beta_ok` meets its contract: at each return the tests that led there say which part of `betaOk` is false, or that only the last is left.
 use borrow.Author.Needs.{needs}
 use borrow.Author.Tests.{not-true, not-false}
-use Rattle.port.proofs.ranges.beta_ok.Statement.{statement}
-use Rattle.port.proofs.ranges.beta_ok.Tie as tie
+use Rattle.checks.proofs.ranges.beta_ok.Statement.{statement}
+use Rattle.checks.proofs.ranges.beta_ok.Tie as tie
 
 cast-in-range : tie.Need-cast-in-range
 cast-in-range c = search needs
