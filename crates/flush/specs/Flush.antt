@@ -10,7 +10,8 @@ use Rattle.model.specs.declared.Slot.{Slot}
 use Rattle.model.specs.Record.{Lists, entered}
 use Rattle.model.specs.Packets.{slotsUntil, following}
 use Rattle.model.specs.Course.{Step, sendOldest, slotEnds}
-use Rattle.model.specs.Policies.MF.{Marking, Marked, marksAfter, headMark, flushed, unflushed, mfPolicy}
+use Rattle.model.specs.declared.Marking.{Marking}
+use Rattle.model.specs.Policies.MF.{Marked, marksAfter, headMark, flushed, unflushed, mfPolicy}
 use Rattle.model.specs.Lent.{LentList, listsBefore, listsAfter}
 use Rattle.steps.specs.declared.Window.{Window}
 use Rattle.steps.specs.Window.{Within, windowOf}

@@ -6,21 +6,21 @@ ghost use Rattle.model.specs.Calls.{greedyCall, pgCall, mfCall, planCall, audit
 ghost use Rattle.model.specs.Port.{makeCall};
 ghost use mathlib.Core.Path.{_≡_};
 ghost use Rattle.model.specs.Lent.{listsBefore, listsAfter};
-ghost use Rattle.trace.specs.Checked.{markingOf};
-ghost use Rattle.host.specs.Said.{betaOf, Said, SaidOfAudit};
+ghost use Rattle.host.specs.Said.{betaOf, markingOf, Said, SaidOfAudit};
 ghost use Rattle.host.specs.Live.{heardOf};
 use crate::live::feed;
 use crate::said::code;
 use crate::said::say_audit;
 use crate::said::say_run;
 use audit::audit;
-use mf::calls::mf;
 use model::Beta;
 use model::MakingAnswer;
-use plan::calls::plan;
+use model::Marking;
 use port::Port;
 use runs::calls::greedy;
+use runs::calls::mf;
 use runs::calls::pg;
+use runs::calls::plan;
 
 // Plain greedy. Every call answers 0 and writes its totals, or it answers a refusal's number times 2^32 and its place, and writes nothing.
 #[no_mangle]
@@ -76,7 +76,15 @@ pub extern "C" fn host_mf(
     ensures { λ a. ⌜ Said (mfCall (now (slots .entry)) (now (values .entry)) room (markingOf lo hi r) (listsBefore fates whens bys)) (now (totals .entry)) a (listsAfter fates whens bys) (now (totals .exit)) ⌝ }
 {
     say_run(
-        mf(slots, values, room, lo, hi, r, fates, whens, bys),
+        mf(
+            slots,
+            values,
+            room,
+            Marking { lo, hi, r },
+            fates,
+            whens,
+            bys,
+        ),
         totals,
     )
 }

@@ -15,7 +15,8 @@ use Rattle.model.specs.Rules.{Verdict, clear, orElse, Obeys, bufferOf}
 use Rattle.model.specs.Refusals.{betaRefusal, markingRefusal, valueOk, loOrHi, packetRefusalFrom, traceRefusal, plainRefusal, pgRefusal, mfRefusal}
 use Rattle.model.specs.Policies.Greedy.{greedyRun}
 use Rattle.model.specs.Policies.PG.{pgRun}
-use Rattle.model.specs.Policies.MF.{Marking, mfRun}
+use Rattle.model.specs.declared.Marking.{Marking}
+use Rattle.model.specs.Policies.MF.{mfRun}
 use Rattle.model.specs.Policies.Plan.{planRun}
 use Rattle.model.specs.Calls.{ran, runUnless, greedyCall, pgCall, mfCall, planCall, auditCall}
 use Rattle.laws.proofs.FirstFault.{orElse-zero, verdictIf-zero, obeys-clearFrom}

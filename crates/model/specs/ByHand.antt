@@ -12,7 +12,8 @@ use Rattle.model.specs.Record.{Lists, entered, rowsOf}
 use Rattle.model.specs.Course.{slotEnds, course}
 use Rattle.model.specs.Policies.Greedy.{belowAll, loserAt, greedyRule}
 use Rattle.model.specs.Policies.PG.{preemptedAt, pgRule}
-use Rattle.model.specs.Policies.MF.{Marking, markDown, markFrom, flushed, unflushed}
+use Rattle.model.specs.declared.Marking.{Marking}
+use Rattle.model.specs.Policies.MF.{markDown, markFrom, flushed, unflushed}
 use Rattle.model.specs.Policies.Plan.{insert, byFallingValue, fitsFrom, keepInTurn, keptRule}
 use Rattle.model.specs.Rules.{hasFate, atFate, countOf, fateOutside, byWrong, whenWrong, notAfterLast, notLater, isHeldAt, overRoom, orElse, faultAt, firstFaultFrom}
 use Rattle.model.specs.Totals.{valueOf, mostHeldFrom, nothing, noTotals}

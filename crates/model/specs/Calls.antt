@@ -12,7 +12,8 @@ use Rattle.model.specs.Rules.{Verdict, Buffer, firstFault, orElse, buffe
 use Rattle.model.specs.Totals.{totalsOf, noTotals}
 use Rattle.model.specs.Policies.Greedy.{greedyRun}
 use Rattle.model.specs.Policies.PG.{pgRun}
-use Rattle.model.specs.Policies.MF.{Marking, mfRun}
+use Rattle.model.specs.declared.Marking.{Marking}
+use Rattle.model.specs.Policies.MF.{mfRun}
 use Rattle.model.specs.Policies.Plan.{planRun}
 use Rattle.model.specs.Refusals.{plainRefusal, pgRefusal, mfRefusal}
 use Rattle.model.specs.Answers.{Reply}

@@ -27,7 +27,7 @@ use Rattle.checks.proofs.Tests.{left-part}
 -- a call takes no value that is out of range
 pub refuses : (taken : Values) (v : ℕ) → valueOk v ≡ false → okOf taken v ≡ false
 refuses InRange v e = e
-refuses (LoOrHi lo hi) v e = rw e
+refuses (LoOrHi marking) v e = rw e
 
 -- what the walk answers from the packet at place i on
 abbrev pub restFrom : (ℕ → Bool) → List ℕ → List ℕ → Slot → ℕ → Verdict

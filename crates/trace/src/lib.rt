@@ -5,7 +5,7 @@ ghost use lib.ListN.{length};
 ghost use Rattle.model.specs.Rules.{clear};
 ghost use Rattle.model.specs.Refusals.{unless as unlessOk, markingOk, slotOk, packetRefusal, traceRefusal, plainRefusal, pgRefusal, mfRefusal};
 ghost use Rattle.model.specs.Lent.{listsBefore};
-ghost use Rattle.trace.specs.Checked.{verdictOf, markingOf, okOf, lengthsEqual, Lengths};
+ghost use Rattle.trace.specs.Checked.{verdictOf, okOf, lengthsEqual, Lengths};
 ghost use Rattle.trace.specs.Fitting.{SlotsFit};
 use checks::ranges::beta_ok;
 use checks::ranges::room_ok;
@@ -13,6 +13,7 @@ use checks::value_ok;
 use checks::values_ok;
 use model::Beta;
 use model::Cause;
+use model::Marking;
 use model::Record;
 use model::Refusal;
 use model::Slot;
@@ -26,7 +27,7 @@ pub enum Checked {
 // Which values a call takes: all that are in range, or of these only lo and hi.
 enum Values {
     InRange,
-    LoOrHi(u32, u32),
+    LoOrHi(Marking),
 }
 
 fn slot_ok(before: Slot, slot: Slot) -> bool
@@ -49,13 +50,20 @@ fn value_taken(taken: Values, value: u32) -> bool
     }
     match taken {
         Values::InRange => true,
-        Values::LoOrHi(lo, hi) => value == lo || value == hi,
+        Values::LoOrHi(marking) => {
+            let lo = marking.lo;
+            let hi = marking.hi;
+            value == lo || value == hi
+        }
     }
 }
 
-fn marking_ok(lo: u32, hi: u32, r: usize) -> bool
-    ensures { λ ok. ⌜ ok ≡ markingOk (markingOf lo hi r) ⌝ }
+fn marking_ok(marking: Marking) -> bool
+    ensures { λ ok. ⌜ ok ≡ markingOk marking ⌝ }
 {
+    let lo = marking.lo;
+    let hi = marking.hi;
+    let r = marking.r;
     if !value_ok(lo) {
         return false;
     }
@@ -126,7 +134,7 @@ fn all_fit(slots: &[u32], values: &[u32], taken: Values) -> bool
             }
             values_ok(values)
         }
-        Values::LoOrHi(_, _) => false,
+        Values::LoOrHi(_) => false,
     }
 }
 
@@ -253,14 +261,12 @@ pub fn mf(
     slots: &[u32],
     values: &[u32],
     room: usize,
-    lo: u32,
-    hi: u32,
-    r: usize,
+    marking: Marking,
     fates: &[u32],
     whens: &[u32],
     bys: &[u32],
 ) -> Checked
-    ensures { λ answer. ⌜ verdictOf answer ≡ mfRefusal (markingOf lo hi r) (now (slots .entry)) (now (values .entry)) room (listsBefore fates whens bys) ⌝ }
+    ensures { λ answer. ⌜ verdictOf answer ≡ mfRefusal marking (now (slots .entry)) (now (values .entry)) room (listsBefore fates whens bys) ⌝ }
 {
     in_order(
         slots,
@@ -269,7 +275,7 @@ pub fn mf(
         fates,
         whens,
         bys,
-        unless(marking_ok(lo, hi, r), Cause::Parameters),
-        Values::LoOrHi(lo, hi),
+        unless(marking_ok(marking), Cause::Parameters),
+        Values::LoOrHi(marking),
     )
 }
