@@ -15,7 +15,7 @@ use Rattle.model.specs.declared.Totals.{Totals}
 use Rattle.model.specs.declared.AuditAnswer.the-variants as answers
 use Rattle.model.specs.Packets.{arrivals}
 use Rattle.model.specs.Record.{Lists, rows}
-use Rattle.model.specs.Rules.{Verdict, clear, orElse, firstFault}
+use Rattle.model.specs.Rules.{Verdict, clear, orElse, firstFault, bufferOf}
 use Rattle.model.specs.Totals.{totalsOf, mostHeldFrom}
 use Rattle.model.specs.Refusals.{plainRefusal, valueOk}
 use Rattle.model.specs.Answers.{causeNumber, faultNumber, ofAudit}
@@ -24,7 +24,6 @@ use Rattle.laws.proofs.Accepted.{Accepted}
 use Rattle.totals.specs.Totals.{Countable, totalsBy}
 use Rattle.totals.proofs.Totalling.{rows-totals}
 use Rattle.trace.proofs.Laws.{cause-refuses}
-use Rattle.audit.proofs.Kept.{bufferOf}
 
 fault-some : (f : Fault) → eqb (faultNumber f) 0 ≡ false
 fault-some faults.FateOutside = refl

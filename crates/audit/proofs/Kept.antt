@@ -19,7 +19,7 @@ use Rattle.model.specs.Answers.{faultNumber}
 use Rattle.model.specs.Limits.{recordLimits}
 use Rattle.model.specs.Packets.{arrivalsFrom}
 use Rattle.model.specs.Record.{Row, Lists, rowsOf, fateNumber}
-use Rattle.model.specs.Rules.{Verdict, Buffer, clear, countOf, isHeldAt, heldAfter, notAfterLast, byWrong, overRoom, orElse, verdictIf, faultAt, fateOutside, firstFaultFrom}
+use Rattle.model.specs.Rules.{Verdict, Buffer, clear, countOf, isHeldAt, heldAfter, notAfterLast, byWrong, overRoom, orElse, verdictIf, faultAt, fateOutside, firstFaultFrom, bufferOf}
 use Rattle.model.specs.Totals.{mostHeldFrom}
 use Rattle.model.specs.Refusals.{valueOk}
 use Rattle.laws.proofs.Accepted.{Accepted}
@@ -60,9 +60,6 @@ rest-cons slots values room lists t i h =
 pub rest-none : (slots values : List ℕ) (lists : Lists) (i : ℕ) → length slots ≤ i → rest slots values lists i ≡ []
 unfolding arrivalsFrom rowsOf
 rest-none slots values lists i h = rw (drop-of-length-le slots)
-
-abbrev pub bufferOf : List ℕ → ℕ → Buffer
-bufferOf slots room = record { slots = slots; room = room }
 
 -- what is kept where the packets before place i are passed
 pub record Kept (slots values : List ℕ) (room : ℕ) (lists : Lists) (i held most last : ℕ) (leaving : List ℕ) : Type 0 where

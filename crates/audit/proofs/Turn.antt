@@ -10,7 +10,7 @@ use Rattle.model.specs.declared.Fate.{Fate}
 use Rattle.model.specs.declared.Slot.{Slot}
 use Rattle.model.specs.declared.Fault.{Fault}
 use Rattle.model.specs.Record.{Row, Lists, fateNumber}
-use Rattle.model.specs.Rules.{Verdict, clear, byWrong, firstFaultFrom}
+use Rattle.model.specs.Rules.{Verdict, clear, byWrong, firstFaultFrom, bufferOf}
 use Rattle.model.specs.Refusals.{valueOk}
 use Rattle.model.specs.Answers.{faultNumber}
 use Rattle.laws.proofs.Accepted.{Accepted}
@@ -21,7 +21,7 @@ use Rattle.totals.proofs.Counting.{only-le}
 use Rattle.audit.proofs.Faults.{first-clear}
 use Rattle.audit.proofs.Held.{leave-le}
 use Rattle.audit.proofs.Kept as laws
-use Rattle.audit.proofs.Kept.{Kept, bufferOf, rest}
+use Rattle.audit.proofs.Kept.{Kept, rest}
 
 -- where the packet at place i, of fate f, has been read
 pub record Turn (slots values : List ℕ) (room : ℕ) (lists : Lists) (i held most : ℕ) (last : Slot) (leaving : List ℕ) (r : Row) (f : Fate) : Type 0 where

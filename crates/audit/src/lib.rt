@@ -4,13 +4,13 @@ ghost use mathlib.Core.Bool.{false};
 ghost use Prim.Native.Nat.{_+_, _≤_, _<_, min, max};
 ghost use lib.ListN.{length};
 ghost use Rattle.model.specs.Packets.{arrivals};
-ghost use Rattle.model.specs.Record.{rows};
+ghost use Rattle.model.specs.Record.{rows, listsOf};
 ghost use Rattle.model.specs.Refusals.{valueOk};
 ghost use Rattle.model.specs.Answers.{ofAudit};
 ghost use Rattle.model.specs.Calls.{auditCall};
 ghost use Rattle.model.specs.Limits.{recordLimits};
-ghost use Rattle.model.specs.Rules.{byWrong};
-ghost use Rattle.trace.specs.Checked.{listsOf};
+ghost use Rattle.model.specs.Rules.{byWrong, bufferOf};
+ghost use Rattle.model.specs.Lent.{listsBefore};
 ghost use Rattle.faults.specs.Faults.{rowOf};
 ghost use Rattle.laws.proofs.Accepted.{NeverDown, Accepted};
 ghost use Rattle.audit.specs.Rows.{rowAt, Names, Reads, Place};
@@ -126,7 +126,7 @@ fn entry_at(
     i: usize,
 ) -> Read
     requires { ⌜ Place (now slots) (now values) (listsOf (now fates) (now whens) (now bys)) i ⌝ }
-    ensures { λ r. ⌜ Reads (rowAt (now (slots .entry)) (now (values .entry)) (listsOf (now (fates .entry)) (now (whens .entry)) (now (bys .entry))) i) r ⌝ }
+    ensures { λ r. ⌜ Reads (rowAt (now (slots .entry)) (now (values .entry)) (listsBefore fates whens bys) i) r ⌝ }
 {
     let Named::Fate(fate) = fate_of(fates[i]) else {
         return Read::Outside;
@@ -168,7 +168,7 @@ fn sweep(
     bys: &[u32],
 ) -> Swept
     requires { ⌜ Accepted valueOk (now slots) (now values) room (listsOf (now fates) (now whens) (now bys)) ⌝ }
-    ensures { λ r. ⌜ SweptAs (record { slots = now (slots .entry); room = room }) (rows (arrivals (now (slots .entry)) (now (values .entry))) (listsOf (now (fates .entry)) (now (whens .entry)) (now (bys .entry)))) r ⌝ }
+    ensures { λ r. ⌜ SweptAs (bufferOf (now (slots .entry)) room) (rows (arrivals (now (slots .entry)) (now (values .entry))) (listsBefore fates whens bys)) r ⌝ }
 {
     let mut leaving = [0u32; Record::PACKETS + 1];
     let mut held: u32 = 0;
@@ -205,7 +205,7 @@ pub fn audit(
     whens: &[u32],
     bys: &[u32],
 ) -> AuditAnswer
-    ensures { λ r. ⌜ ofAudit r ≡ auditCall (now (slots .entry)) (now (values .entry)) room (listsOf (now (fates .entry)) (now (whens .entry)) (now (bys .entry))) ⌝ }
+    ensures { λ r. ⌜ ofAudit r ≡ auditCall (now (slots .entry)) (now (values .entry)) room (listsBefore fates whens bys) ⌝ }
 {
     if let Checked::Refused(refusal) = trace::plain(slots, values, room, fates, whens, bys) {
         return AuditAnswer::Refused(refusal);

@@ -1,4 +1,6 @@
 // Tests of numbers and of lists of them that several calls make.
+pub mod ranges;
+
 ghost use mathlib.Core.Path.{_≡_};
 ghost use lib.Dec.{eqb};
 ghost use Rattle.model.specs.Limits.{within};

@@ -8,11 +8,11 @@ use crate::said::say_audit;
 use crate::said::say_record;
 use crate::said::say_run;
 use audit::audit;
-use mf::calls::mf;
 use model::RunAnswer;
-use plan::calls::plan;
 use runs::calls::greedy;
+use runs::calls::mf;
 use runs::calls::pg;
+use runs::calls::plan;
 
 // A policy or the offline plan.
 pub enum Call {
@@ -41,17 +41,7 @@ fn run(
     match call {
         Call::Greedy => greedy(slots, values, room, fates, whens, bys),
         Call::PG => pg(slots, values, room, case.beta(), fates, whens, bys),
-        Call::MF => mf(
-            slots,
-            values,
-            room,
-            case.lo,
-            case.hi,
-            case.r,
-            fates,
-            whens,
-            bys,
-        ),
+        Call::MF => mf(slots, values, room, case.marking(), fates, whens, bys),
         Call::Plan => plan(slots, values, room, fates, whens, bys),
     }
 }

@@ -6,6 +6,7 @@ use crate::lists::get;
 use crate::lists::more;
 use crate::lists::put;
 use model::Beta;
+use model::Marking;
 
 // The numbers of a case. The length of each list is a field, since bad arguments make a list one longer or one shorter than n.
 pub struct Case {
@@ -28,6 +29,14 @@ impl Case {
         Beta {
             num: self.num,
             den: self.den,
+        }
+    }
+
+    pub fn marking(self) -> Marking {
+        Marking {
+            lo: self.lo,
+            hi: self.hi,
+            r: self.r,
         }
     }
 }

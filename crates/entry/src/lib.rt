@@ -2,8 +2,9 @@
 ghost use mathlib.Core.Path.{_≡_};
 ghost use lib.ListN.{getD, set};
 ghost use Rattle.model.specs.Packets.{placeOf, slotOf, numberOf};
-ghost use Rattle.model.specs.Record.{enter as entering};
-ghost use Rattle.entry.specs.Entry.{lists, entry};
+ghost use Rattle.model.specs.Record.{enter as entering, listsOf};
+ghost use Rattle.model.specs.Lent.{listsBefore};
+ghost use Rattle.entry.specs.Entry.{entry};
 use model::Fate;
 use model::PacketNumber;
 use model::Slot;
@@ -57,7 +58,7 @@ pub fn enter(
     when: Slot,
     by: PacketNumber,
 )
-    ensures { λ _. ⌜ lists (now (fates .exit)) (now (whens .exit)) (now (bys .exit)) ≡ entering (entry number fate when by) (lists (now (fates .entry)) (now (whens .entry)) (now (bys .entry))) ⌝ }
+    ensures { λ _. ⌜ listsOf (now (fates .exit)) (now (whens .exit)) (now (bys .exit)) ≡ entering (entry number fate when by) (listsBefore fates whens bys) ⌝ }
 {
     let place = place_of(number);
     put(fates, place, fate.number());

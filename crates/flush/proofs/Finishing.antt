@@ -14,7 +14,8 @@ use Rattle.model.specs.declared.SlotAnswer.the-variants.{Sent}
 use Rattle.model.specs.declared.Fate.the-variants as fates
 use Rattle.model.specs.Record.{Lists, enter, entered}
 use Rattle.model.specs.Course.{Step, Policy, sendOldest}
-use Rattle.model.specs.Policies.MF.{Marking, Marked, marksAfter, headMark, flushed, unflushed, mfPolicy}
+use Rattle.model.specs.declared.Marking.{Marking}
+use Rattle.model.specs.Policies.MF.{Marked, marksAfter, headMark, flushed, unflushed, mfPolicy}
 use Rattle.steps.specs.declared.Window.{Window}
 use Rattle.entry.specs.Entry.{entry}
 use Rattle.steps.specs.Window.{windowOf, Within, oldestOf}

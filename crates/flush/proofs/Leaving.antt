@@ -13,7 +13,8 @@ use Rattle.model.specs.declared.Slot.{Slot}
 use Rattle.model.specs.Packets.{slotsUntil, following}
 use Rattle.model.specs.Record.{Lists, entered}
 use Rattle.model.specs.Course.{sendOldest, slotEnds}
-use Rattle.model.specs.Policies.MF.{Marking, Marked, goesWith, marksAfter, headMark, unflushed, mfPolicy}
+use Rattle.model.specs.declared.Marking.{Marking}
+use Rattle.model.specs.Policies.MF.{Marked, goesWith, marksAfter, headMark, unflushed, mfPolicy}
 use Rattle.steps.specs.declared.Window.{Window}
 use Rattle.steps.specs.Window.{windowOf, Within}
 use Rattle.steps.specs.Guarded.{liesWithin}

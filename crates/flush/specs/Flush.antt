@@ -10,12 +10,14 @@ use Rattle.model.specs.declared.Slot.{Slot}
 use Rattle.model.specs.Record.{Lists, entered}
 use Rattle.model.specs.Packets.{slotsUntil, following}
 use Rattle.model.specs.Course.{Step, sendOldest, slotEnds}
-use Rattle.model.specs.Policies.MF.{Marking, Marked, marksAfter, headMark, flushed, unflushed, mfPolicy}
+use Rattle.model.specs.declared.Marking.{Marking}
+use Rattle.model.specs.Policies.MF.{Marked, marksAfter, headMark, flushed, unflushed, mfPolicy}
+use Rattle.model.specs.Lent.{LentList, listsBefore, listsAfter}
 use Rattle.steps.specs.declared.Window.{Window}
 use Rattle.steps.specs.Window.{Within, windowOf}
 use Rattle.steps.specs.Guarded.{liesWithin}
 use Rattle.steps.specs.Step.{Stepped}
-use Rattle.steps.specs.Lent.{Lent, LentList, lentBefore, lentAfter, listsBefore, listsAfter, Moved, queueIn, placed, leaving}
+use Rattle.steps.specs.Lent.{Lent, lentBefore, lentAfter, Moved, queueIn, placed, leaving}
 use Rattle.marks.specs.Mark.{beside}
 
 -- the flush under a head with mark m

@@ -1,13 +1,14 @@
 // The ends of slots under MF, on a window that lies within its lists.
-ghost use Rattle.trace.specs.Checked.{markingOf};
+ghost use Rattle.model.specs.Lent.{listsAfter};
 ghost use Rattle.steps.specs.Window.{Within};
-ghost use Rattle.steps.specs.Lent.{lentBefore, listsAfter, moved, movedFrom};
+ghost use Rattle.steps.specs.Lent.{lentBefore, moved, movedFrom};
 ghost use Rattle.flush.specs.Flush.{mfFrom, mfTo, Sends, EndedIn, EndsIn};
 use crate::sift::flush;
 use crate::sift::head_mark;
 use entry::enter;
 use marks::mark;
 use model::Fate;
+use model::Marking;
 use model::PacketNumber;
 use model::Slot;
 use model::SlotAnswer;
@@ -58,15 +59,13 @@ fn end_slot(
     bys: &mut [u32],
     w: Window,
     room: usize,
-    lo: u32,
-    hi: u32,
-    r: usize,
+    marking: Marking,
     slot: Slot,
 ) -> Window
     requires { ⌜ Within w (now numbers) (now values) ⌝ }
-    ensures { λ v. ⌜ EndedIn room (markingOf lo hi r) (now (slots .entry)) slot (mfFrom w numbers values marks fates whens bys) (mfTo v numbers values marks fates whens bys) ⌝ }
+    ensures { λ v. ⌜ EndedIn room marking (now (slots .entry)) slot (mfFrom w numbers values marks fates whens bys) (mfTo v numbers values marks fates whens bys) ⌝ }
 {
-    mark(numbers, values, slots, marks, w, room, lo, hi, r, slot);
+    mark(numbers, values, slots, marks, w, room, marking, slot);
     let m = head_mark(numbers, values, marks, w);
     let left = flush(numbers, values, marks, fates, whens, bys, w, m, slot);
     send(numbers, values, fates, whens, bys, left, slot)
@@ -83,14 +82,12 @@ pub fn end_slots(
     bys: &mut [u32],
     w: Window,
     room: usize,
-    lo: u32,
-    hi: u32,
-    r: usize,
+    marking: Marking,
     from: Slot,
     until: Slot,
 ) -> Window
     requires { ⌜ Within w (now numbers) (now values) ⌝ }
-    ensures { λ v. ⌜ EndsIn room (markingOf lo hi r) (now (slots .entry)) from until (mfFrom w numbers values marks fates whens bys) (mfTo v numbers values marks fates whens bys) ⌝ }
+    ensures { λ v. ⌜ EndsIn room marking (now (slots .entry)) from until (mfFrom w numbers values marks fates whens bys) (mfTo v numbers values marks fates whens bys) ⌝ }
 {
     let mut head = w.head;
     let mut tail = w.tail;
@@ -106,9 +103,7 @@ pub fn end_slots(
             bys,
             Window { head, tail },
             room,
-            lo,
-            hi,
-            r,
+            marking,
             Slot(slot),
         );
         head = left.head;

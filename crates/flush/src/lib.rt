@@ -1,7 +1,7 @@
 // The ends of slots under MF: the slot's hi packets mark, the head's mark flushes, and the head is sent.
 ghost use mathlib.Core.Path.{_≡_};
-ghost use Rattle.trace.specs.Checked.{markingOf};
 ghost use Rattle.flush.specs.Flush.{mfFrom, mfTo, onMF, endingIn};
+use model::Marking;
 use model::Slot;
 use steps::Window;
 use steps::moves::lies_within;
@@ -20,13 +20,11 @@ pub fn end_slots(
     bys: &mut [u32],
     w: Window,
     room: usize,
-    lo: u32,
-    hi: u32,
-    r: usize,
+    marking: Marking,
     from: Slot,
     until: Slot,
 ) -> Window
-    ensures { λ v. ⌜ mfTo v numbers values marks fates whens bys ≡ onMF (endingIn room (markingOf lo hi r) (now (slots .entry)) from until) (mfFrom w numbers values marks fates whens bys) ⌝ }
+    ensures { λ v. ⌜ mfTo v numbers values marks fates whens bys ≡ onMF (endingIn room marking (now (slots .entry)) from until) (mfFrom w numbers values marks fates whens bys) ⌝ }
 {
     if !lies_within(numbers, values, w) {
         return w;
@@ -41,9 +39,7 @@ pub fn end_slots(
         bys,
         w,
         room,
-        lo,
-        hi,
-        r,
+        marking,
         from,
         until,
     )

@@ -6,6 +6,7 @@ use mathlib.Core.List.{List}
 use lib.ListN.{set}
 use lib.Dec.{eqb}
 use Rattle.model.specs.declared.Beta.{Beta}
+use Rattle.model.specs.declared.Marking.{Marking}
 use Rattle.model.specs.declared.Tally.{Tally}
 use Rattle.model.specs.declared.Totals.{Totals}
 use Rattle.model.specs.declared.Fault.the-variants as faults
@@ -16,6 +17,9 @@ use Rattle.model.specs.Calls.{Outcome}
 
 abbrev pub betaOf : ℕ → ℕ → Beta
 betaOf num den = record { num = num; den = den }
+
+abbrev pub markingOf : ℕ → ℕ → ℕ → Marking
+markingOf lo hi r = record { lo = lo; hi = hi; r = r }
 
 -- 0, or a refusal's or a fault's number times 2 ^ 32 and its place
 abbrev pub codeOf : ℕ → ℕ → ℕ

@@ -5,21 +5,22 @@ mod said;
 ghost use Rattle.model.specs.Calls.{greedyCall, pgCall, mfCall, planCall, auditCall};
 ghost use Rattle.model.specs.Port.{makeCall};
 ghost use mathlib.Core.Path.{_≡_};
-ghost use Rattle.trace.specs.Checked.{markingOf, listsOf};
-ghost use Rattle.host.specs.Said.{betaOf, Said, SaidOfAudit};
+ghost use Rattle.model.specs.Lent.{listsBefore, listsAfter};
+ghost use Rattle.host.specs.Said.{betaOf, markingOf, Said, SaidOfAudit};
 ghost use Rattle.host.specs.Live.{heardOf};
 use crate::live::feed;
 use crate::said::code;
 use crate::said::say_audit;
 use crate::said::say_run;
 use audit::audit;
-use mf::calls::mf;
 use model::Beta;
 use model::MakingAnswer;
-use plan::calls::plan;
+use model::Marking;
 use port::Port;
 use runs::calls::greedy;
+use runs::calls::mf;
 use runs::calls::pg;
+use runs::calls::plan;
 
 // Plain greedy. Every call answers 0 and writes its totals, or it answers a refusal's number times 2^32 and its place, and writes nothing.
 #[no_mangle]
@@ -32,7 +33,7 @@ pub extern "C" fn host_greedy(
     bys: &mut [u32],
     totals: &mut [u32],
 ) -> u64
-    ensures { λ r. ⌜ Said (greedyCall (now (slots .entry)) (now (values .entry)) room (listsOf (now (fates .entry)) (now (whens .entry)) (now (bys .entry)))) (now (totals .entry)) r (listsOf (now (fates .exit)) (now (whens .exit)) (now (bys .exit))) (now (totals .exit)) ⌝ }
+    ensures { λ r. ⌜ Said (greedyCall (now (slots .entry)) (now (values .entry)) room (listsBefore fates whens bys)) (now (totals .entry)) r (listsAfter fates whens bys) (now (totals .exit)) ⌝ }
 {
     say_run(greedy(slots, values, room, fates, whens, bys), totals)
 }
@@ -50,7 +51,7 @@ pub extern "C" fn host_pg(
     bys: &mut [u32],
     totals: &mut [u32],
 ) -> u64
-    ensures { λ r. ⌜ Said (pgCall (now (slots .entry)) (now (values .entry)) room (betaOf num den) (listsOf (now (fates .entry)) (now (whens .entry)) (now (bys .entry)))) (now (totals .entry)) r (listsOf (now (fates .exit)) (now (whens .exit)) (now (bys .exit))) (now (totals .exit)) ⌝ }
+    ensures { λ r. ⌜ Said (pgCall (now (slots .entry)) (now (values .entry)) room (betaOf num den) (listsBefore fates whens bys)) (now (totals .entry)) r (listsAfter fates whens bys) (now (totals .exit)) ⌝ }
 {
     say_run(
         pg(slots, values, room, Beta { num, den }, fates, whens, bys),
@@ -72,10 +73,18 @@ pub extern "C" fn host_mf(
     bys: &mut [u32],
     totals: &mut [u32],
 ) -> u64
-    ensures { λ a. ⌜ Said (mfCall (now (slots .entry)) (now (values .entry)) room (markingOf lo hi r) (listsOf (now (fates .entry)) (now (whens .entry)) (now (bys .entry)))) (now (totals .entry)) a (listsOf (now (fates .exit)) (now (whens .exit)) (now (bys .exit))) (now (totals .exit)) ⌝ }
+    ensures { λ a. ⌜ Said (mfCall (now (slots .entry)) (now (values .entry)) room (markingOf lo hi r) (listsBefore fates whens bys)) (now (totals .entry)) a (listsAfter fates whens bys) (now (totals .exit)) ⌝ }
 {
     say_run(
-        mf(slots, values, room, lo, hi, r, fates, whens, bys),
+        mf(
+            slots,
+            values,
+            room,
+            Marking { lo, hi, r },
+            fates,
+            whens,
+            bys,
+        ),
         totals,
     )
 }
@@ -91,7 +100,7 @@ pub extern "C" fn host_plan(
     bys: &mut [u32],
     totals: &mut [u32],
 ) -> u64
-    ensures { λ r. ⌜ Said (planCall (now (slots .entry)) (now (values .entry)) room (listsOf (now (fates .entry)) (now (whens .entry)) (now (bys .entry)))) (now (totals .entry)) r (listsOf (now (fates .exit)) (now (whens .exit)) (now (bys .exit))) (now (totals .exit)) ⌝ }
+    ensures { λ r. ⌜ Said (planCall (now (slots .entry)) (now (values .entry)) room (listsBefore fates whens bys)) (now (totals .entry)) r (listsAfter fates whens bys) (now (totals .exit)) ⌝ }
 {
     say_run(plan(slots, values, room, fates, whens, bys), totals)
 }
@@ -107,7 +116,7 @@ pub extern "C" fn host_audit(
     bys: &[u32],
     totals: &mut [u32],
 ) -> u64
-    ensures { λ r. ⌜ SaidOfAudit (auditCall (now (slots .entry)) (now (values .entry)) room (listsOf (now (fates .entry)) (now (whens .entry)) (now (bys .entry)))) (now (totals .entry)) r (now (totals .exit)) ⌝ }
+    ensures { λ r. ⌜ SaidOfAudit (auditCall (now (slots .entry)) (now (values .entry)) room (listsBefore fates whens bys)) (now (totals .entry)) r (now (totals .exit)) ⌝ }
 {
     say_audit(audit(slots, values, room, fates, whens, bys), totals)
 }

@@ -8,13 +8,13 @@ use lib.ListN.{length, replicate, length-append, length-replicate}
 use borrow.Author.Tests.{eq-eqb, ne-eqb}
 use Rattle.model.specs.declared.Refusal.{Refusal}
 use Rattle.model.specs.Packets.{arrivals}
-use Rattle.model.specs.Record.{Lists}
+use Rattle.model.specs.Record.{Lists, listsOf}
 use Rattle.model.specs.Rules.{Verdict, clear}
 use Rattle.model.specs.Refusals.{valueOk, plainRefusal}
 use Rattle.model.specs.Answers.{causeNumber}
 use Rattle.model.specs.Policies.Plan.{keepInTurn, planKept}
 use Rattle.trace.specs.declared.Checked.{Checked}
-use Rattle.trace.specs.Checked.{verdictOf, listsOf}
+use Rattle.trace.specs.Checked.{verdictOf}
 use Rattle.laws.proofs.Accepted.{Accepted, accepted}
 use Rattle.steps.specs.Guarded.{Guarded}
 use Rattle.steps.specs.Places.{packetsAt}

@@ -9,7 +9,7 @@ use Rattle.model.specs.Limits.{portLimits}
 use Rattle.model.specs.Packets.{arrivals}
 use Rattle.model.specs.Refusals.{plainRefusal}
 use Rattle.model.specs.Policies.Plan.{fits, keepInTurn}
-use Rattle.trace.specs.Checked.{listsOf}
+use Rattle.model.specs.Record.{listsOf}
 use Rattle.steps.specs.Places.{packetsAt}
 
 -- one entry for each packet, a room in range, and slots from 1 that never go down

@@ -7,7 +7,7 @@ ghost use lib.ListN.{length, replicate};
 ghost use Rattle.model.specs.Packets.{arrivals};
 ghost use Rattle.model.specs.Refusals.{valueOk};
 ghost use Rattle.model.specs.Policies.Plan.{planKept};
-ghost use Rattle.trace.specs.Checked.{listsOf};
+ghost use Rattle.model.specs.Record.{listsOf};
 ghost use Rattle.laws.proofs.Accepted.{Accepted};
 ghost use Rattle.steps.specs.Guarded.{Guarded};
 ghost use Rattle.order.specs.Order.{Inside};

@@ -16,7 +16,7 @@ use Rattle.model.specs.Packets.{arrivalsFrom, arrivals}
 use Rattle.model.specs.Record.{Lists}
 use Rattle.model.specs.Rules.{Verdict}
 use Rattle.model.specs.Refusals.{slotOk, valueOk, loOrHi, packetRefusalFrom, traceRefusal, plainRefusal, pgRefusal, mfRefusal}
-use Rattle.model.specs.Policies.MF.{Marking}
+use Rattle.model.specs.declared.Marking.{Marking}
 use Rattle.laws.proofs.FirstFault.{orElse-zero, verdictIf-zero}
 use Rattle.laws.proofs.Entered.{Sized}
 use Rattle.laws.proofs.Standing.{Comes}

@@ -11,11 +11,12 @@ use Rattle.model.specs.declared.Beta.{Beta}
 use Rattle.model.specs.declared.Slot.{Slot}
 use Rattle.model.specs.Packets.{Arrival, arrivals}
 use Rattle.model.specs.Record.{Entry, Lists, blank, recordOf}
-use Rattle.model.specs.Rules.{Verdict, clear, orElse, Obeys}
+use Rattle.model.specs.Rules.{Verdict, clear, orElse, Obeys, bufferOf}
 use Rattle.model.specs.Refusals.{betaRefusal, markingRefusal, valueOk, loOrHi, packetRefusalFrom, traceRefusal, plainRefusal, pgRefusal, mfRefusal}
 use Rattle.model.specs.Policies.Greedy.{greedyRun}
 use Rattle.model.specs.Policies.PG.{pgRun}
-use Rattle.model.specs.Policies.MF.{Marking, mfRun}
+use Rattle.model.specs.declared.Marking.{Marking}
+use Rattle.model.specs.Policies.MF.{mfRun}
 use Rattle.model.specs.Policies.Plan.{planRun}
 use Rattle.model.specs.Calls.{ran, runUnless, greedyCall, pgCall, mfCall, planCall, auditCall}
 use Rattle.laws.proofs.FirstFault.{orElse-zero, verdictIf-zero, obeys-clearFrom}
@@ -54,7 +55,7 @@ audit-unrefused own ok f slots values room lists after x y z =
 
 -- the audit of a record that a run wrote
 audit-ran : (slots values : List ℕ) (room : ℕ) (entries : List Entry) → plainRefusal slots values room (recordOf (length slots) entries) .number ≡ 0 →
-    Obeys (record { slots = slots; room = room }) (recorded slots values entries) →
+    Obeys (bufferOf slots room) (recorded slots values entries) →
     auditCall slots values room (ran slots values entries .lists) ≡ ran slots values entries .reply
 unfolding auditCall orElse
 audit-ran slots values room entries z h = rw (z, obeys-clearFrom _ [] (recorded slots values entries) h)
@@ -62,7 +63,7 @@ audit-ran slots values room entries z h = rw (z, obeys-clearFrom _ [] (recorded 
 module _ (slots values : List ℕ) (room : ℕ) (lists : Lists) where
   -- a run that is not refused, whatever its own parameters and its test of the values
   audited : (own : Verdict) (ok : ℕ → Bool) → ((v : ℕ) → ok v ≡ true → valueOk v ≡ true) → (entries : List Entry) → Accepted ok slots values room lists →
-      traceRefusal own ok slots values room lists .number ≡ 0 → Obeys (record { slots = slots; room = room }) (recorded slots values entries) →
+      traceRefusal own ok slots values room lists .number ≡ 0 → Obeys (bufferOf slots room) (recorded slots values entries) →
       auditCall slots values room (runUnless (traceRefusal own ok slots values room lists) lists (ran slots values entries) .lists)
       ≡ runUnless (traceRefusal own ok slots values room lists) lists (ran slots values entries) .reply
   unfolding runUnless

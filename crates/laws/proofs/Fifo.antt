@@ -18,7 +18,8 @@ use Rattle.model.specs.Course.{Policy, Decided, held, rejected, losing, entries
 use Rattle.model.specs.Policies.Greedy.{without, loserAt, greedyRule}
 use Rattle.model.specs.Policies.PG.{preemptedAt}
 use Rattle.laws.proofs.PG.{pgAtOnce}
-use Rattle.model.specs.Policies.MF.{Marking, markOf, goesWith, flushed, unflushed, headMark, marksAfter, mfPolicy}
+use Rattle.model.specs.declared.Marking.{Marking}
+use Rattle.model.specs.Policies.MF.{markOf, goesWith, flushed, unflushed, headMark, marksAfter, mfPolicy}
 use Rattle.model.specs.Policies.Plan.{keptOf, keptRule}
 use Rattle.laws.proofs.Cases.{cond-cases, below-cases}
 

@@ -31,7 +31,7 @@ verdictIf-zero false number place z = refl
 
 faultAt-clear : (B : Buffer) (older : List Row) (r : Row) → Faultless B older r → faultAt B older r ≡ clear
 unfolding faultAt orElse
-faultAt-clear B older r h = rw (h .0, h .1, h .2, h .3, h .4)
+faultAt-clear B older r h = rw (h .fate, h .by, h .when, h .later, h .within-room)
 
 faultAt-zero : (B : Buffer) (older : List Row) (r : Row) → faultAt B older r .number ≡ 0 → Faultless B older r
 unfolding faultAt
@@ -40,7 +40,13 @@ faultAt-zero B older r z =
     let b = orElse-zero _ _ (a .1) in
     let c = orElse-zero _ _ (b .1) in
     let d = orElse-zero _ _ (c .1) in
-    (verdictIf-zero _ 10 _ (a .0), verdictIf-zero _ 11 _ (b .0), verdictIf-zero _ 12 _ (c .0), verdictIf-zero _ 13 _ (d .0), verdictIf-zero _ 14 _ (d .1))
+    record {
+      fate = verdictIf-zero _ 10 _ (a .0);
+      by = verdictIf-zero _ 11 _ (b .0);
+      when = verdictIf-zero _ 12 _ (c .0);
+      later = verdictIf-zero _ 13 _ (d .0);
+      within-room = verdictIf-zero _ 14 _ (d .1);
+    }
 
 pub obeys-clearFrom : (B : Buffer) (older rows : List Row) → ObeysFrom B older rows → firstFaultFrom B older rows ≡ clear
 unfolding firstFaultFrom orElse

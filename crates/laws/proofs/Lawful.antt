@@ -9,7 +9,7 @@ use Rattle.model.specs.declared.Beta.{Beta}
 use Rattle.model.specs.declared.Packet.{Packet}
 use Rattle.model.specs.Packets.{arrivals}
 use Rattle.model.specs.Record.{Lists}
-use Rattle.model.specs.Rules.{Obeys}
+use Rattle.model.specs.Rules.{Obeys, bufferOf}
 use Rattle.model.specs.Totals.{mostHeldFrom}
 use Rattle.model.specs.Course.{Policy, Decided, byRule, course, first}
 use Rattle.model.specs.Refusals.{valueOk, plainRefusal, pgRefusal}
@@ -36,7 +36,7 @@ pub record Lawful {S : Type 0} (P : Policy S) (s : S) (slots values : List ℕ) 
   pub held : HeldAgrees P first s [] (recorded slots values (course P first s (arrivals slots values))) (arrivals slots values)
   pub most : mostHeldFrom [] (recorded slots values (course P first s (arrivals slots values))) ≡ mostQueue P first s (arrivals slots values)
   pub within-room : mostQueue P first s (arrivals slots values) ≤ room
-  pub obeys : Obeys (record { slots = slots; room = room }) (recorded slots values (course P first s (arrivals slots values)))
+  pub obeys : Obeys (bufferOf slots room) (recorded slots values (course P first s (arrivals slots values)))
 
 pub lawful : {S : Type 0} {P : Policy S} {F : Fifo P} {Fit : ℕ → S → Type 0} → Marks F Fit → (s : S) → P .held s ≡ [] → Fit 0 s →
     {ok : ℕ → Bool} (slots values : List ℕ) (room : ℕ) (lists : Lists) → Accepted ok slots values room lists →

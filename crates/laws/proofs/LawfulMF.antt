@@ -15,7 +15,8 @@ use Rattle.model.specs.Packets.{placeOf, slotOf, arrivals}
 use Rattle.model.specs.Record.{Lists, flushedAt}
 use Rattle.model.specs.Course.{first}
 use Rattle.model.specs.Refusals.{mfRefusal}
-use Rattle.model.specs.Policies.MF.{Marking, Marked, markOf, isMarked, goesWith, markDown, markFrom, marksAfter, flushed, mfPolicy, unmarked}
+use Rattle.model.specs.declared.Marking.{Marking}
+use Rattle.model.specs.Policies.MF.{Marked, markOf, isMarked, goesWith, markDown, markFrom, marksAfter, flushed, mfPolicy, unmarked}
 use Rattle.laws.proofs.Cases.{cond-cases}
 use Rattle.laws.proofs.Fifo.{fifo-mf}
 use Rattle.laws.proofs.Conserving.{conserving-mf}

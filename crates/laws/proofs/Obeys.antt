@@ -8,7 +8,7 @@ use lib.ListN.{length}
 use borrow.Author.Tests.{le-ltb}
 use Rattle.model.specs.Packets.{Arrival}
 use Rattle.model.specs.Record.{fateNumber, Entry, Row}
-use Rattle.model.specs.Rules.{Faultless, ObeysFrom, hasFate, atFate, fateOutside, byWrong, whenWrong, notLater, overRoom, heldAfter}
+use Rattle.model.specs.Rules.{Faultless, ObeysFrom, hasFate, atFate, fateOutside, byWrong, whenWrong, notLater, overRoom, heldAfter, bufferOf}
 use Rattle.model.specs.Totals.{mostHeldFrom}
 use Rattle.laws.proofs.Cases.{eqb-cases}
 use Rattle.laws.proofs.Entered.{entryOf, EnteredOnce, rowsBy}
@@ -39,7 +39,7 @@ module _ (slots : List ℕ) (room : ℕ) (entries : List Entry) (O : EnteredOnce
         rw (N .number, N .slot) (rw (its-number, place) at (its-entry .when-right))
 
     faultless : (older : List Row) → Older entries last older → heldAfter older (nextRow entries a) ≤ room →
-        Faultless (record { slots = slots; room = room }) older (nextRow entries a)
+        Faultless (bufferOf slots room) older (nextRow entries a)
     unfolding fateOutside notLater overRoom hasFate
     faultless older told fits =
         let e = entryOf (a .packet .number .0) entries in
@@ -50,10 +50,16 @@ module _ (slots : List ℕ) (room : ℕ) (entries : List Entry) (O : EnteredOnce
         (e .when) (rw (N .number))))
         λ t q. rw t
         in
-        (rw (fateNumber-within (e .fate)), by-is-right, when-is-right, later, le-ltb room (heldAfter older (nextRow entries a)) fits)
+        record {
+          fate = rw (fateNumber-within (e .fate));
+          by = by-is-right;
+          when = when-is-right;
+          later = later;
+          within-room = le-ltb room (heldAfter older (nextRow entries a)) fits;
+        }
 
   pub obeysFrom : (now last : ℕ) (trace : List Arrival) (older : List Row) → Comes slots now last trace → Older entries last older →
-      mostHeldFrom older (rowsBy entries trace) ≤ room → ObeysFrom (record { slots = slots; room = room }) older (rowsBy entries trace)
+      mostHeldFrom older (rowsBy entries trace) ≤ room → ObeysFrom (bufferOf slots room) older (rowsBy entries trace)
   unfolding mostHeldFrom
   obeysFrom now last [] older C told fits = tt
   obeysFrom now last (a ∷ trace) older C told fits = (

@@ -15,7 +15,8 @@ use Rattle.model.specs.Packets.{Arrival, slotsUntil, placeOf}
 use Rattle.model.specs.Course.{Policy, byRule, slotEnds, first}
 use Rattle.model.specs.Policies.Greedy.{greedyRule}
 use Rattle.model.specs.Policies.PG.{pgRule}
-use Rattle.model.specs.Policies.MF.{Marking, mfPolicy}
+use Rattle.model.specs.declared.Marking.{Marking}
+use Rattle.model.specs.Policies.MF.{mfPolicy}
 use Rattle.model.specs.Policies.Plan.{keptOf, keep, fitsFrom, fits, keepInTurn, byFallingValue, planKept, keptRule}
 use Rattle.laws.proofs.Roomy.{greedy-roomy}
 use Rattle.laws.proofs.PG.{pgAtOnce, pg-at-once, at-once-roomy}

@@ -19,7 +19,8 @@ use Rattle.model.specs.Totals.{valueOf, totalsOf}
 use Rattle.model.specs.Course.{Policy, course, first}
 use Rattle.model.specs.Policies.Greedy.{greedyRun}
 use Rattle.model.specs.Policies.PG.{pgRun}
-use Rattle.model.specs.Policies.MF.{Marking, unmarked, mfRun}
+use Rattle.model.specs.declared.Marking.{Marking}
+use Rattle.model.specs.Policies.MF.{unmarked, mfRun}
 use Rattle.model.specs.Policies.Plan.{planKept, planRun}
 use Rattle.laws.proofs.Times.{times, timesArriving}
 use Rattle.laws.proofs.Conserving.{Conserving, course-conserves, conserving-greedy, conserving-pg, conserving-kept, conserving-mf}

@@ -15,7 +15,8 @@ use Rattle.model.specs.declared.PacketNumber.{PacketNumber}
 use Rattle.model.specs.declared.Slot.{Slot}
 use Rattle.model.specs.Packets.{placeOf}
 use Rattle.model.specs.Port.{packetsOf}
-use Rattle.model.specs.Policies.MF.{Marking, isMarked, markDown, markFrom}
+use Rattle.model.specs.declared.Marking.{Marking}
+use Rattle.model.specs.Policies.MF.{isMarked, markDown, markFrom}
 use Rattle.queue.proofs.Packets.{packets-take}
 use Rattle.steps.specs.declared.Window.{Window}
 use Rattle.steps.specs.Window.{part, windowOf, Within}

@@ -7,7 +7,8 @@ use lib.Dec.{eqb}
 use Rattle.model.specs.declared.Packet.{Packet}
 use Rattle.model.specs.declared.Slot.{Slot}
 use Rattle.model.specs.Packets.{slotOf}
-use Rattle.model.specs.Policies.MF.{Marking, Marked, markDown}
+use Rattle.model.specs.declared.Marking.{Marking}
+use Rattle.model.specs.Policies.MF.{Marked, markDown}
 
 -- the packet at a place of two lists
 abbrev pub packetIn : List ℕ → List ℕ → ℕ → Packet

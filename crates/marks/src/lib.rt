@@ -1,11 +1,11 @@
 // MF's marks: one number for each packet of the trace, that of the packet that marked it, 0 for none.
 ghost use mathlib.Core.Path.{_≡_};
 ghost use Rattle.model.specs.Policies.MF.{markOf, marksAfter};
-ghost use Rattle.trace.specs.Checked.{markingOf};
 ghost use Rattle.steps.specs.Window.{windowOf};
 ghost use Rattle.steps.specs.Guarded.{Guarded, liesWithin};
 ghost use Rattle.marks.specs.Mark.{beside};
 use entry::number_of;
+use model::Marking;
 use model::Packet;
 use model::PacketNumber;
 use model::Slot;
@@ -29,15 +29,13 @@ pub fn mark(
     marks: &mut [u32],
     w: Window,
     room: usize,
-    lo: u32,
-    hi: u32,
-    r: usize,
+    marking: Marking,
     slot: Slot,
 )
-    ensures { λ _. ⌜ Guarded (liesWithin w (now (numbers .entry)) (now (values .entry))) (now (marks .exit) ≡ marksAfter room (markingOf lo hi r) (now (slots .entry)) slot (beside (windowOf w (now (numbers .entry)) (now (values .entry))) (now (marks .entry)))) (now (marks .exit) ≡ now (marks .entry)) ⌝ }
+    ensures { λ _. ⌜ Guarded (liesWithin w (now (numbers .entry)) (now (values .entry))) (now (marks .exit) ≡ marksAfter room marking (now (slots .entry)) slot (beside (windowOf w (now (numbers .entry)) (now (values .entry))) (now (marks .entry)))) (now (marks .exit) ≡ now (marks .entry)) ⌝ }
 {
     if !lies_within(numbers, values, w) {
         return;
     }
-    step::mark(numbers, values, slots, marks, w, room, lo, hi, r, slot);
+    step::mark(numbers, values, slots, marks, w, room, marking, slot);
 }

@@ -5,13 +5,13 @@ ghost use Prim.Native.Nat.{min, _+_, _-_, _≤_};
 ghost use lib.Dec.{eqb};
 ghost use Rattle.model.specs.Packets.{slotOf};
 ghost use Rattle.model.specs.Policies.MF.{isMarked, markDown, marksAfter};
-ghost use Rattle.trace.specs.Checked.{markingOf};
 ghost use Rattle.steps.specs.Window.{windowOf, Within};
 ghost use Rattle.marks.specs.Mark.{packetIn, olderThan, markedBy, beside};
 use crate::mark_of;
 use entry::place_of;
 use entry::put;
 use entry::slot_of;
+use model::Marking;
 use model::Packet;
 use model::PacketNumber;
 use model::Slot;
@@ -46,10 +46,10 @@ fn mark_down(
     n: usize,
     lo: u32,
     r: usize,
-    marking: PacketNumber,
+    by: PacketNumber,
 )
     requires { ⌜ Within (record { head = head; tail = head + n }) (now numbers) (now values) ⌝ }
-    ensures { λ _. ⌜ now (marks .exit) ≡ markDown lo r marking (olderThan (now (numbers .entry)) (now (values .entry)) head n) (now (marks .entry)) ⌝ }
+    ensures { λ _. ⌜ now (marks .exit) ≡ markDown lo r by (olderThan (now (numbers .entry)) (now (values .entry)) head n) (now (marks .entry)) ⌝ }
 {
     let mut i = n;
     let mut left = r;
@@ -61,7 +61,7 @@ fn mark_down(
             value: values[k],
         };
         if takes_mark(marks, p, lo) {
-            put(marks, place_of(p.number), marking.0);
+            put(marks, place_of(p.number), by.0);
             left -= 1;
         }
     }
@@ -75,21 +75,30 @@ fn mark_by(
     marks: &mut [u32],
     head: usize,
     i: usize,
-    lo: u32,
-    hi: u32,
-    r: usize,
+    marking: Marking,
     slot: Slot,
 )
     requires { ⌜ Within (record { head = head; tail = head + i + 1 }) (now numbers) (now values) ⌝ }
-    ensures { λ _. ⌜ now (marks .exit) ≡ markedBy (markingOf lo hi r) (now (slots .entry)) slot (olderThan (now (numbers .entry)) (now (values .entry)) head i) (packetIn (now (numbers .entry)) (now (values .entry)) (head + i)) (now (marks .entry)) ⌝ }
+    ensures { λ _. ⌜ now (marks .exit) ≡ markedBy marking (now (slots .entry)) slot (olderThan (now (numbers .entry)) (now (values .entry)) head i) (packetIn (now (numbers .entry)) (now (values .entry)) (head + i)) (now (marks .entry)) ⌝ }
 {
     let k = head + i;
+    let number = numbers[k];
+    let value = values[k];
     let p = Packet {
-        number: PacketNumber(numbers[k]),
-        value: values[k],
+        number: PacketNumber(number),
+        value,
     };
-    if gives_marks(slots, p, hi, slot) {
-        mark_down(numbers, values, marks, head, i, lo, r, p.number);
+    if gives_marks(slots, p, marking.hi, slot) {
+        mark_down(
+            numbers,
+            values,
+            marks,
+            head,
+            i,
+            marking.lo,
+            marking.r,
+            p.number,
+        );
     }
 }
 
@@ -116,19 +125,17 @@ pub fn mark(
     marks: &mut [u32],
     w: Window,
     room: usize,
-    lo: u32,
-    hi: u32,
-    r: usize,
+    marking: Marking,
     slot: Slot,
 )
     requires { ⌜ Within w (now numbers) (now values) ⌝ }
-    ensures { λ _. ⌜ now (marks .exit) ≡ marksAfter room (markingOf lo hi r) (now (slots .entry)) slot (beside (windowOf w (now (numbers .entry)) (now (values .entry))) (now (marks .entry))) ⌝ }
+    ensures { λ _. ⌜ now (marks .exit) ≡ marksAfter room marking (now (slots .entry)) slot (beside (windowOf w (now (numbers .entry)) (now (values .entry))) (now (marks .entry))) ⌝ }
 {
     let head = w.head;
     let n = positions(w, room);
     let mut i = 0;
     while i < n {
-        mark_by(numbers, values, slots, marks, head, i, lo, hi, r, slot);
+        mark_by(numbers, values, slots, marks, head, i, marking, slot);
         i += 1;
     }
 }

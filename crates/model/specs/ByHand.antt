@@ -12,7 +12,8 @@ use Rattle.model.specs.Record.{Lists, entered, rowsOf}
 use Rattle.model.specs.Course.{slotEnds, course}
 use Rattle.model.specs.Policies.Greedy.{belowAll, loserAt, greedyRule}
 use Rattle.model.specs.Policies.PG.{preemptedAt, pgRule}
-use Rattle.model.specs.Policies.MF.{Marking, markDown, markFrom, flushed, unflushed}
+use Rattle.model.specs.declared.Marking.{Marking}
+use Rattle.model.specs.Policies.MF.{markDown, markFrom, flushed, unflushed}
 use Rattle.model.specs.Policies.Plan.{insert, byFallingValue, fitsFrom, keepInTurn, keptRule}
 use Rattle.model.specs.Rules.{hasFate, atFate, countOf, fateOutside, byWrong, whenWrong, notAfterLast, notLater, isHeldAt, overRoom, orElse, faultAt, firstFaultFrom}
 use Rattle.model.specs.Totals.{valueOf, mostHeldFrom, nothing, noTotals}
@@ -52,8 +53,8 @@ infix 80 _/_/_
 unfoldable pub _/_/_ : ℕ → ℕ → ℕ → Said
 f / w / b = record { fate = f; when = w; by = b }
 
-unfoldable pub listsOf : List Said → Lists
-listsOf said =
+unfoldable pub saidLists : List Said → Lists
+saidLists said =
     record {
       fates = map (λ (s : Said). s .fate) said;
       whens = map (λ (s : Said). s .when) said;
@@ -82,7 +83,7 @@ accepted said arrived sent rejected pushedOut preempted flushed most =
           «most_held» = most;
         };
       };
-      lists = listsOf said;
+      lists = saidLists said;
     }
 
 -- a refusal or a fault: the lists are as before
@@ -109,10 +110,10 @@ benchValues = 1 ∷ 9 ∷ 9 ∷ 9 ∷ []
 
 -- P2's record but for one packet
 p10 : Lists
-p10 = listsOf (1 / 1 / 0 ∷ 1 / 2 / 0 ∷ 1 / 3 / 0 ∷ [])
+p10 = saidLists (1 / 1 / 0 ∷ 1 / 2 / 0 ∷ 1 / 3 / 0 ∷ [])
 
 p11 : Lists
-p11 = listsOf (1 / 1 / 0 ∷ 1 / 1 / 0 ∷ 2 / 1 / 3 ∷ [])
+p11 = saidLists (1 / 1 / 0 ∷ 1 / 1 / 0 ∷ 2 / 1 / 3 ∷ [])
 
 infix 10 _gives_
 unfoldable pub _gives_ : Call → Outcome → Example
@@ -163,7 +164,7 @@ table =
     ∷ []
 
 by-hand : AllHold table
-unfolding table answer before _/_/_ listsOf _#_ accepted stopped empty ones threes benchSlots benchValues p10 p11 _gives_
+unfolding table answer before _/_/_ saidLists _#_ accepted stopped empty ones threes benchSlots benchValues p10 p11 _gives_
     within arrivalsFrom entered rowsOf slotEnds course belowAll loserAt greedyRule preemptedAt pgRule markDown markFrom flushed unflushed
     insert byFallingValue fitsFrom keepInTurn keptRule hasFate atFate countOf fateOutside byWrong whenWrong notAfterLast notLater isHeldAt overRoom
     orElse faultAt firstFaultFrom valueOf mostHeldFrom packetRefusalFrom plainRefusal pgRefusal mfRefusal runUnless greedyCall pgCall mfCall

@@ -8,11 +8,12 @@ use lib.Dec.{eqb}
 use Rattle.model.specs.declared.Beta.{Beta}
 use Rattle.model.specs.Packets.{arrivals}
 use Rattle.model.specs.Record.{Entry, Lists, recordOf, rows}
-use Rattle.model.specs.Rules.{Verdict, Buffer, firstFault, orElse}
+use Rattle.model.specs.Rules.{Verdict, Buffer, firstFault, orElse, bufferOf}
 use Rattle.model.specs.Totals.{totalsOf, noTotals}
 use Rattle.model.specs.Policies.Greedy.{greedyRun}
 use Rattle.model.specs.Policies.PG.{pgRun}
-use Rattle.model.specs.Policies.MF.{Marking, mfRun}
+use Rattle.model.specs.declared.Marking.{Marking}
+use Rattle.model.specs.Policies.MF.{mfRun}
 use Rattle.model.specs.Policies.Plan.{planRun}
 use Rattle.model.specs.Refusals.{plainRefusal, pgRefusal, mfRefusal}
 use Rattle.model.specs.Answers.{Reply}
@@ -61,6 +62,6 @@ planCall slots values room lists =
 -- the audit only reads the record's lists: faults come only after 1 to 6 are clear, and an audit that names a fault answers all totals as 0
 unfoldable pub auditCall : List ℕ → List ℕ → ℕ → Lists → Reply
 auditCall slots values room lists =
-    let buffer : Buffer = record { slots = slots; room = room } in
+    let buffer : Buffer = bufferOf slots room in
     let v = orElse (plainRefusal slots values room lists) (firstFault buffer (rows (arrivals slots values) lists)) in
     cond (eqb (v .number) 0) (replyWith slots values lists) (replyTo v)

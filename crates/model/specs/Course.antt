@@ -1,6 +1,7 @@
 -- 01, 'Packets, slots and room': the course of a trace through a queue, whatever the policy. Within a slot packets arrive one by one, in number order.
 -- At the end of the slot the oldest held packet, if any, is sent. After the last arrival, slots go on until nothing is held.
 use Prim.Native.Nat.{ℕ, zero, suc}
+use mathlib.Core.Bool.{Bool, cond}
 use mathlib.Core.List.{List, [], _∷_, _++_}
 use lib.ListN.{length}
 use Rattle.model.specs.declared.Slot.{Slot}
@@ -64,6 +65,11 @@ entriesOf a (losing l) = lostTo a l ∷ []
 abbrev pub sendOldest : Slot → List Packet → Step (List Packet)
 sendOldest now [] = record { entries = []; next = [] }
 sendOldest now (p ∷ queue) = record { entries = sentAt now p ∷ []; next = queue }
+
+-- hold the arrival, or reject it
+abbrev pub heldIf : Bool → List Packet → Packet → Decided
+heldIf keep queue p =
+    cond keep (record { decision = held; queue = queue ++ p ∷ [] }) (record { decision = rejected; queue = queue })
 
 -- the policy that decides each arrival by a rule and does nothing else
 abbrev pub byRule : (List Packet → Packet → Decided) → Policy (List Packet)

@@ -10,7 +10,7 @@ use Rattle.model.specs.Rules.{hasFate, atFate, countOf, fateOutside, byW
 use Rattle.model.specs.Totals.{valueOf, mostHeldFrom, nothing}
 use Rattle.model.specs.Refusals.{packetRefusalFrom, plainRefusal}
 use Rattle.model.specs.Calls.{auditCall}
-use Rattle.model.specs.ByHand.{audit, Example, Said, _/_/_, listsOf, _#_, answer, accepted, _gives_, AllHold}
+use Rattle.model.specs.ByHand.{audit, Example, Said, _/_/_, saidLists, _#_, answer, accepted, _gives_, AllHold}
 
 -- room 2: two packets in slot 1 and one in slot 4
 slots : List ℕ
@@ -22,7 +22,7 @@ values = 3 ∷ 5 ∷ 9 ∷ []
 -- the audit of a record passes: all three are sent
 allSent : List Said → Example
 allSent said =
-    audit slots values 2 (listsOf said) gives accepted said (3 # 17) (3 # 17) nothing nothing nothing nothing 2
+    audit slots values 2 (saidLists said) gives accepted said (3 # 17) (3 # 17) nothing nothing nothing nothing 2
 
 table : List Example
 table =
@@ -33,11 +33,11 @@ table =
     -- a gap before each of the three, the last as long as a slot's number can make it
     ∷ allSent (1 / 2 / 0 ∷ 1 / 4 / 0 ∷ 1 / 4294967295 / 0 ∷ [])
     -- a gap after the last sending: packet 2 is still held in slots 5 to 8, in which nothing is sent, and flushed in slot 9
-    ∷ (audit slots values 2 (listsOf (1 / 1 / 0 ∷ 5 / 9 / 3 ∷ 1 / 4 / 0 ∷ [])) gives
+    ∷ (audit slots values 2 (saidLists (1 / 1 / 0 ∷ 5 / 9 / 3 ∷ 1 / 4 / 0 ∷ [])) gives
     accepted (1 / 1 / 0 ∷ 5 / 9 / 3 ∷ 1 / 4 / 0 ∷ []) (3 # 17) (2 # 12) nothing nothing nothing (1 # 5) 2)
     ∷ []
 
 idle : AllHold table
-unfolding table allSent slots values answer _/_/_ listsOf _#_ accepted _gives_ within arrivalsFrom rowsOf hasFate atFate countOf fateOutside byWrong whenWrong
+unfolding table allSent slots values answer _/_/_ saidLists _#_ accepted _gives_ within arrivalsFrom rowsOf hasFate atFate countOf fateOutside byWrong whenWrong
     notAfterLast notLater isHeldAt overRoom orElse faultAt firstFaultFrom valueOf mostHeldFrom packetRefusalFrom plainRefusal auditCall
 idle = refl

@@ -3,6 +3,7 @@ pub mod Numbers
 pub mod Limits
 pub mod Packets
 pub mod Record
+pub mod Lent
 pub mod Course
 pub mod Policies
 pub mod Rules

@@ -50,3 +50,7 @@ following now = record { 0 = suc (now .0) }
 -- the values of a queue
 abbrev pub valuesOf : List Packet → List ℕ
 valuesOf queue = map (λ (p : Packet). p .value) queue
+
+-- and its numbers
+abbrev pub numbersOf : List Packet → List ℕ
+numbersOf queue = map (λ (p : Packet). p .number .0) queue

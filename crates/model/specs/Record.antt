@@ -47,6 +47,9 @@ pub record Lists : Type 0 where
   pub whens : List ℕ
   pub bys : List ℕ
 
+abbrev pub listsOf : List ℕ → List ℕ → List ℕ → Lists
+listsOf fates whens bys = record { fates = fates; whens = whens; bys = bys }
+
 -- the lists with one entry written at its packet's place
 abbrev pub enter : Entry → Lists → Lists
 enter e lists =

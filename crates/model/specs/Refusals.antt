@@ -13,7 +13,7 @@ use Rattle.model.specs.Limits.{recordLimits, portLimits, within}
 use Rattle.model.specs.Packets.{Arrival, arrivals}
 use Rattle.model.specs.Record.{Lists}
 use Rattle.model.specs.Rules.{Verdict, clear, orElse, verdictIf}
-use Rattle.model.specs.Policies.MF.{Marking}
+use Rattle.model.specs.declared.Marking.{Marking}
 
 -- unless a test holds, this refusal, at this place
 abbrev pub unlessAt : Bool → Cause → ℕ → Verdict

@@ -96,14 +96,16 @@ pub record Buffer : Type 0 where
   pub slots : List ℕ
   pub room : ℕ
 
+abbrev pub bufferOf : List ℕ → ℕ → Buffer
+bufferOf slots room = record { slots = slots; room = room }
+
 -- this packet has none of the faults
-abbrev pub Faultless : Buffer → List Row → Row → Type 0
-Faultless B older r =
-    (fateOutside r ≡ false)
-    × (byWrong (length (B .slots)) r ≡ false)
-    × (whenWrong (B .slots) r ≡ false)
-    × (notLater older r ≡ false)
-    × (overRoom (B .room) older r ≡ false)
+pub record Faultless (B : Buffer) (older : List Row) (r : Row) : Type 0 where
+  pub fate : fateOutside r ≡ false
+  pub by : byWrong (length (B .slots)) r ≡ false
+  pub when : whenWrong (B .slots) r ≡ false
+  pub later : notLater older r ≡ false
+  pub within-room : overRoom (B .room) older r ≡ false
 
 -- no packet has one of the faults
 abbrev pub ObeysFrom : Buffer → List Row → List Row → Type 0

@@ -22,6 +22,13 @@ pub struct Beta {
     pub den: u32,
 }
 
+// MF's parameters: the two values, and how many packets one of hi marks.
+pub struct Marking {
+    pub lo: u32,
+    pub hi: u32,
+    pub r: usize,
+}
+
 // What can become of a packet.
 pub enum Fate {
     Sent,

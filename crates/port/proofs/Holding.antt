@@ -10,50 +10,13 @@ use lib.Dec.{eqb}
 use Rattle.model.specs.declared.Packet.{Packet}
 use Rattle.model.specs.declared.PacketNumber.{PacketNumber}
 use Rattle.model.specs.Limits.{portLimits}
-use Rattle.model.specs.Packets.{nobody, valuesOf}
+use Rattle.model.specs.Packets.{nobody, valuesOf, numbersOf}
 use Rattle.model.specs.Policies.Greedy.{without}
 use Rattle.model.specs.Port.{PortState, packetsOf, queueOf, inPlaces, holding, all}
 use Rattle.queue.specs.Slide.{slid}
-use Rattle.queue.proofs.Packets.{packets-values, packets-length, packets-at}
+use Rattle.queue.proofs.Packets.{packets-values, packets-length, packets-at, packets-numbers, packets-both, map-without, map-behind}
 use Rattle.port.specs.State.{Placed, TakenOut}
 use Rattle.port.proofs.Padded.{zeros-pass, padded-length, stored, taken-out}
-
-abbrev pub numbersOf : List Packet → List ℕ
-numbersOf queue = map (λ (p : Packet). p .number .0) queue
-
--- a list of packets, read by one of their fields
-module _ (f : Packet → ℕ) where
-  map-append : (queue more : List Packet) → map f (queue ++ more) ≡ map f queue ++ map f more
-  map-append [] more = refl
-  map-append (p ∷ queue) more = ap (λ (l : List ℕ). f p ∷ l) (map-append queue more)
-
-  map-take : (n : ℕ) (queue : List Packet) → map f (take n queue) ≡ take n (map f queue)
-  map-take zero queue = refl
-  map-take (suc n) [] = refl
-  map-take (suc n) (p ∷ queue) = ap (λ (l : List ℕ). f p ∷ l) (map-take n queue)
-
-  map-drop : (n : ℕ) (queue : List Packet) → map f (drop n queue) ≡ drop n (map f queue)
-  map-drop zero queue = refl
-  map-drop (suc n) [] = refl
-  map-drop (suc n) (p ∷ queue) = map-drop n queue
-
-  pub map-without : (place : ℕ) (queue : List Packet) → map f (without place queue) ≡ take place (map f queue) ++ drop (suc place) (map f queue)
-  map-without place queue = map-append (take place queue) (drop (suc place) queue) ∙ ap₂ _++_ (map-take place queue) (map-drop (suc place) queue)
-
-  pub map-behind : (queue : List Packet) (p : Packet) → map f (queue ++ p ∷ []) ≡ map f queue ++ f p ∷ []
-  map-behind queue p = map-append queue (p ∷ [])
-
-pub packets-numbers : (numbers values : List ℕ) → length numbers ≡ length values → numbersOf (packetsOf numbers values) ≡ numbers
-unfolding packetsOf
-packets-numbers [] [] same = refl
-packets-numbers [] (v ∷ values) same = absurd (omega arith)
-packets-numbers (k ∷ numbers) [] same = absurd (omega arith)
-packets-numbers (k ∷ numbers) (v ∷ values) same = ap (λ (ns : List ℕ). k ∷ ns) (packets-numbers numbers values (omega arith))
-
-pub packets-both : (queue : List Packet) → packetsOf (numbersOf queue) (valuesOf queue) ≡ queue
-unfolding packetsOf
-packets-both [] = refl
-packets-both (p ∷ queue) = ap (λ (q : List Packet). p ∷ q) (packets-both queue)
 
 -- the port with other contents
 abbrev pub filled : PortState → PacketNumber → ℕ → List ℕ → List ℕ → PortState

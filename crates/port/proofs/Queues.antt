@@ -9,7 +9,7 @@ use lib.ListN.{length, take, drop, length-append, length-take, length-drop}
 use lib.Dec.{leb, ltb}
 use borrow.Author.Tests.{ltb-true, leb-true, lt-ltb, le-leb}
 use Rattle.model.specs.declared.Packet.{Packet}
-use Rattle.model.specs.Packets.{valuesOf}
+use Rattle.model.specs.Packets.{valuesOf, numbersOf}
 use Rattle.model.specs.Policies.Greedy.{without}
 use Rattle.model.specs.Refusals.{valueOk}
 use Rattle.model.specs.Port.{PortState, packetsOf, queueOf, all, risesFrom}
@@ -17,7 +17,7 @@ use Rattle.queue.specs.declared.Choice.{Choice}
 use Rattle.queue.specs.declared.Choice.the-variants.{Hold, Reject, Lose}
 use Rattle.queue.specs.Choose.{applied}
 use Rattle.port.proofs.Padded.{both}
-use Rattle.port.proofs.Holding.{numbersOf, map-without, map-behind}
+use Rattle.queue.proofs.Packets.{map-without, map-behind}
 use Rattle.port.proofs.Parts.{Sound, queue-short}
 use Rattle.port.proofs.Choices.{Allowed}
 

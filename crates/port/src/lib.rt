@@ -1,6 +1,5 @@
 // The live PG port, a value, with the limits that belong to it. What its calls mean stands over plain lists in crate model.
 mod places;
-pub mod ranges;
 
 ghost use mathlib.Core.Path.{_≡_};
 ghost use mathlib.Core.Bool.{true};
@@ -12,10 +11,11 @@ ghost use Rattle.model.specs.Refusals.{valueOk};
 ghost use Rattle.model.specs.Port.{fresh, zeroPort, sound as soundness, queueOf, holding, makeCall, arriveCall, endOfSlotCall};
 ghost use Rattle.port.specs.State.{stateOf, limitsOf, makingOf, arrivalOf, slotOf, refusing, Placed, Taking};
 use crate::places::take_out;
-use crate::ranges::beta_ok;
-use crate::ranges::room_ok;
 use checks::all_zero;
 use checks::numbers_rise;
+use checks::ranges;
+use checks::ranges::beta_ok;
+use checks::ranges::room_ok;
 use checks::value_ok;
 use checks::values_ok;
 use model::ArrivalAnswer;
@@ -74,9 +74,9 @@ struct Taken {
 }
 
 impl Port {
-    pub const ROOM: usize = 256;
+    pub const ROOM: usize = ranges::ROOM;
 
-    pub const BETA: u32 = Record::VALUE;
+    pub const BETA: u32 = ranges::BETA;
 
     pub const NUMBER: u32 = 4_294_967_295;
 

@@ -1,11 +1,12 @@
 -- The packets of a list of numbers and a list of values, taken apart and put together as the two lists are.
 use Prim.Native.Nat.{ℕ, zero, suc, _+_, _<_}
-use mathlib.Core.Path.{_≡_, refl, ap}
-use mathlib.Core.List.{List, [], _∷_, _++_}
+use mathlib.Core.Path.{_≡_, refl, ap, ap₂, _∙_}
+use mathlib.Core.List.{List, [], _∷_, _++_, map}
 use native.Mathlib.Omega.{arith}
 use lib.ListN.{length, getD, take, drop}
 use Rattle.model.specs.declared.Packet.{Packet}
-use Rattle.model.specs.Packets.{nobody, valuesOf}
+use Rattle.model.specs.Packets.{nobody, valuesOf, numbersOf}
+use Rattle.model.specs.Policies.Greedy.{without}
 use Rattle.model.specs.Port.{packetsOf}
 
 abbrev packet : ℕ → ℕ → Packet
@@ -60,3 +61,37 @@ packets-at [] (v ∷ values) i same inside = absurd (omega arith)
 packets-at (k ∷ numbers) [] i same inside = absurd (omega arith)
 packets-at (k ∷ numbers) (v ∷ values) zero same inside = refl
 packets-at (k ∷ numbers) (v ∷ values) (suc i) same inside = packets-at numbers values i (omega arith) (omega arith)
+
+-- a list of packets, read by one of their fields
+module _ (f : Packet → ℕ) where
+  map-append : (queue more : List Packet) → map f (queue ++ more) ≡ map f queue ++ map f more
+  map-append [] more = refl
+  map-append (p ∷ queue) more = ap (λ (l : List ℕ). f p ∷ l) (map-append queue more)
+
+  map-take : (n : ℕ) (queue : List Packet) → map f (take n queue) ≡ take n (map f queue)
+  map-take zero queue = refl
+  map-take (suc n) [] = refl
+  map-take (suc n) (p ∷ queue) = ap (λ (l : List ℕ). f p ∷ l) (map-take n queue)
+
+  map-drop : (n : ℕ) (queue : List Packet) → map f (drop n queue) ≡ drop n (map f queue)
+  map-drop zero queue = refl
+  map-drop (suc n) [] = refl
+  map-drop (suc n) (p ∷ queue) = map-drop n queue
+
+  pub map-without : (place : ℕ) (queue : List Packet) → map f (without place queue) ≡ take place (map f queue) ++ drop (suc place) (map f queue)
+  map-without place queue = map-append (take place queue) (drop (suc place) queue) ∙ ap₂ _++_ (map-take place queue) (map-drop (suc place) queue)
+
+  pub map-behind : (queue : List Packet) (p : Packet) → map f (queue ++ p ∷ []) ≡ map f queue ++ f p ∷ []
+  map-behind queue p = map-append queue (p ∷ [])
+
+pub packets-numbers : (numbers values : List ℕ) → length numbers ≡ length values → numbersOf (packetsOf numbers values) ≡ numbers
+unfolding packetsOf
+packets-numbers [] [] same = refl
+packets-numbers [] (v ∷ values) same = absurd (omega arith)
+packets-numbers (k ∷ numbers) [] same = absurd (omega arith)
+packets-numbers (k ∷ numbers) (v ∷ values) same = ap (λ (ns : List ℕ). k ∷ ns) (packets-numbers numbers values (omega arith))
+
+pub packets-both : (queue : List Packet) → packetsOf (numbersOf queue) (valuesOf queue) ≡ queue
+unfolding packetsOf
+packets-both [] = refl
+packets-both (p ∷ queue) = ap (λ (q : List Packet). p ∷ q) (packets-both queue)

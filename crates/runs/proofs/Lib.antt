@@ -1,2 +1,4 @@
-pub mod Empty
+pub mod Lifted
+pub mod Turning
+pub mod Running
 pub mod Ready

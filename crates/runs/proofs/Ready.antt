@@ -1,33 +1,98 @@
--- A trace that the test accepts is one on which plain greedy and PG can run.
+-- A trace that a call's test accepts is one on which its policy can run, and the run's course is that of the call's definition.
 use Prim.Native.Nat.{ℕ, _≤_}
-use mathlib.Core.Path.{_≡_, sym, ap}
+use mathlib.Core.Path.{_≡_, refl, sym, ap, subst, _∙_}
+use mathlib.Core.Bool.{_||_}
 use mathlib.Core.List.{List, []}
+use lib.Dec.{eqb}
+use lib.ListN.{length}
+use borrow.Author.Tests.{eq-eqb}
 use Rattle.model.specs.declared.Beta.{Beta}
-use Rattle.model.specs.Record.{Lists}
-use Rattle.model.specs.Rules.{Verdict, clear}
-use Rattle.model.specs.Course.{byRule}
-use Rattle.model.specs.Policies.Greedy.{greedyRule}
+use Rattle.model.specs.declared.Marking.{Marking}
+use Rattle.model.specs.Limits.{recordLimits}
 use Rattle.model.specs.Packets.{arrivals}
+use Rattle.model.specs.Record.{Lists, listsOf}
+use Rattle.model.specs.Rules.{Verdict, clear}
+use Rattle.model.specs.Course.{byRule, runBy, first}
+use Rattle.model.specs.Policies.Greedy.{greedyRule}
+use Rattle.model.specs.Policies.MF.{mfPolicy, unmarked}
+use Rattle.model.specs.Policies.Plan.{planKept, keptRule, planRun}
+use Rattle.model.specs.Refusals.{valueOk, loOrHi, plainRefusal, pgRefusal, betaRefusal, mfRefusal, markingRefusal}
 use Rattle.laws.proofs.PG.{pgAtOnce, pg-run}
-use Rattle.model.specs.Refusals.{valueOk, plainRefusal, pgRefusal, betaRefusal}
-use Rattle.laws.proofs.WellFormed.{wellFormed-greedy, wellFormed-pg}
-use Rattle.laws.proofs.Lawful.{lawful-greedy, lawful-at-once}
-use Rattle.laws.proofs.Accepted.{accepted}
+use Rattle.laws.proofs.WellFormed.{wellFormed-greedy, wellFormed-pg, wellFormed-mf, wellFormed-plan}
+use Rattle.laws.proofs.Lawful.{lawful-greedy, lawful-at-once, lawful-plan}
+use Rattle.laws.proofs.LawfulMF.{lawful-mf}
+use Rattle.laws.proofs.Accepted.{Accepted, accepted}
+use Rattle.checks.proofs.Tests.{left-part}
+use Rattle.steps.specs.Guarded.{Guarded}
 use Rattle.steps.specs.Calls.{Ready}
 use Rattle.steps.proofs.Answering.{ready}
+use Rattle.marks.specs.Mark.{beside}
+use Rattle.kept.specs.Keep.{accepts}
+use Rattle.kept.proofs.Planned.{all-accepted}
+use Rattle.runs.specs.declared.policy.Policy.the-variants.{Kept}
+use Rattle.runs.specs.Policy.{lifted, courseBy}
+use Rattle.runs.proofs.Lifted.{lifted-course, lifted-ready}
 
 module _ (slots values : List ℕ) (room : ℕ) (lists : Lists) where
-  pub greedy-ready : clear ≡ plainRefusal slots values room lists → Ready (byRule (greedyRule room)) [] slots values lists × (1 ≤ room)
+  number-zero : (v : Verdict) → clear ≡ v → v .number ≡ 0
+  number-zero v e = ap (λ (w : Verdict). w .number) (sym e)
+
+  pub greedy-ready : clear ≡ plainRefusal slots values room lists → Ready (byRule (greedyRule room)) [] slots values lists
   unfolding plainRefusal
   greedy-ready e =
-      let zero-number : plainRefusal slots values room lists .number ≡ 0 = ap (λ (v : Verdict). v .number) (sym e) in
-      let T = accepted clear valueOk slots values room lists zero-number in
-      (ready (byRule (greedyRule room)) [] valueOk (λ v h. h) slots values room lists T (wellFormed-greedy slots values (T .lengths) room) (lawful-greedy slots values room lists zero-number), T .room-from)
+      let none = number-zero _ e in
+      let T = accepted clear valueOk slots values room lists none in
+      ready (byRule (greedyRule room)) [] valueOk (λ v h. h) slots values room lists T
+      (wellFormed-greedy slots values (T .lengths) room) (lawful-greedy slots values room lists none)
 
-  pub pg-ready : (beta : Beta) → clear ≡ pgRefusal beta slots values room lists → Ready (byRule (pgAtOnce room beta)) [] slots values lists × (1 ≤ room)
+  pub pg-ready : (beta : Beta) → clear ≡ pgRefusal beta slots values room lists → Ready (byRule (pgAtOnce room beta)) [] slots values lists
   unfolding pgRefusal
   pg-ready beta e =
-      let zero-number : pgRefusal beta slots values room lists .number ≡ 0 = ap (λ (v : Verdict). v .number) (sym e) in
-      let T = accepted (betaRefusal beta) valueOk slots values room lists zero-number in
+      let none = number-zero _ e in
+      let T = accepted (betaRefusal beta) valueOk slots values room lists none in
       let formed = rw (pg-run room beta (arrivals slots values)) at (wellFormed-pg slots values (T .lengths) room beta) in
-      (ready (byRule (pgAtOnce room beta)) [] valueOk (λ v h. h) slots values room lists T formed (lawful-at-once slots values room lists beta zero-number), T .room-from)
+      ready (byRule (pgAtOnce room beta)) [] valueOk (λ v h. h) slots values room lists T formed (lawful-at-once slots values room lists beta none)
+
+  pub mf-ready : (M : Marking) → clear ≡ mfRefusal M slots values room lists → Ready (mfPolicy room M slots) (unmarked (length slots)) slots values lists
+  unfolding mfRefusal
+  mf-ready M e =
+      let none = number-zero _ e in
+      let T = accepted (markingRefusal M) (loOrHi M) slots values room lists none in
+      ready (mfPolicy room M slots) (unmarked (length slots)) (loOrHi M) (λ v h. left-part (valueOk v) (eqb v (M .lo) || eqb v (M .hi)) h) slots values room lists T
+      (wellFormed-mf slots values (T .lengths) room M) (lawful-mf slots values room lists M none)
+
+  module _ (e : clear ≡ plainRefusal slots values room lists) where
+    tested : Accepted valueOk slots values room lists
+    unfolding plainRefusal
+    tested = accepted clear valueOk slots values room lists (number-zero _ e)
+
+    pub few : length slots ≤ recordLimits .packets
+    few = tested .few
+
+    -- of the record's lists only the lengths count
+    alone : clear ≡ plainRefusal slots values room (listsOf slots slots slots)
+    unfolding plainRefusal
+    alone =
+        e ∙ simp (eq-eqb _ _ (tested .sized .fates), eq-eqb _ _ (tested .sized .whens), eq-eqb _ _ (tested .sized .bys), eq-eqb (length slots) (length slots) refl)
+
+    plan-ready : Ready (byRule (keptRule (planKept room (arrivals slots values)))) [] slots values lists
+    unfolding plainRefusal
+    plan-ready =
+        ready (byRule (keptRule (planKept room (arrivals slots values)))) [] valueOk (λ v h. h) slots values room lists tested
+        (wellFormed-plan slots values (tested .lengths) room) (lawful-plan slots values room lists (number-zero _ e))
+
+    -- what `keep` made of a list as long as the trace, and is lent to the run
+    module _ (zeros part kept marks : List ℕ) (same : length zeros ≡ length slots) (lent : kept ≡ part)
+        (K : Guarded (accepts slots values room zeros) (part ≡ planKept room (arrivals slots values)) (part ≡ zeros)) where
+      planned : kept ≡ planKept room (arrivals slots values)
+      planned = lent ∙ K .passed (all-accepted slots values room zeros same alone)
+
+      pub plan-runs : Ready (lifted (keptRule kept)) (beside [] marks) slots values lists
+      plan-runs =
+          lifted-ready (keptRule kept) marks slots values lists
+          (subst (λ (k : List ℕ). Ready (byRule (keptRule k)) [] slots values lists) (sym planned) plan-ready)
+
+      pub plan-course : courseBy Kept kept marks slots values ≡ planRun room (arrivals slots values)
+      plan-course =
+          lifted-course (keptRule kept) marks first [] (arrivals slots values)
+          ∙ ap (λ (k : List ℕ). runBy (keptRule k) (arrivals slots values)) planned

@@ -1,22 +1,51 @@
-// The public calls of plain greedy and PG: each tests its input, runs, and answers the totals of the record that it wrote.
+// The public calls of the three policies and of the offline plan: each tests its input, runs, and answers the totals of the record that it wrote.
 ghost use mathlib.Core.Path.{_≡_};
 ghost use mathlib.Core.List.{[]};
-ghost use Prim.Native.Nat.{_≤_};
-ghost use Rattle.model.specs.Calls.{ran, greedyCall, pgCall};
-ghost use Rattle.model.specs.Course.{byRule, course, first};
+ghost use lib.ListN.{length};
+ghost use Rattle.model.specs.Calls.{ran, greedyCall, pgCall, mfCall, planCall};
+ghost use Rattle.model.specs.Lent.{listsBefore, listsAfter};
 ghost use Rattle.model.specs.Packets.{arrivals};
+ghost use Rattle.model.specs.Record.{listsOf};
+ghost use Rattle.model.specs.Course.{byRule, runBy};
+ghost use Rattle.model.specs.Rules.{clear};
+ghost use Rattle.model.specs.Refusals.{plainRefusal};
+ghost use Rattle.model.specs.Policies.MF.{mfPolicy, mfRun, unmarked};
+ghost use Rattle.model.specs.Policies.Plan.{planRun};
 ghost use Rattle.queue.specs.Choose.{ruleOf};
-ghost use Rattle.entry.specs.Entry.{lists};
 ghost use Rattle.steps.specs.Calls.{Ready, outcome};
+ghost use Rattle.marks.specs.Mark.{beside};
+ghost use Rattle.runs.specs.Policy.{policyBy, courseBy};
+use crate::policy::Policy;
 use crate::run::run;
+use kept::keep;
 use model::Beta;
+use model::Marking;
+use model::Record;
 use model::RunAnswer;
 use queue::Rule;
 use totals::totals;
 use trace::Checked;
 
-// The run of a rule over an accepted trace, and its totals.
+// The run of a policy over an accepted trace, and its totals.
 fn finish(
+    slots: &[u32],
+    values: &[u32],
+    policy: Policy,
+    kept: &[u8],
+    marks: &mut [u32],
+    fates: &mut [u32],
+    whens: &mut [u32],
+    bys: &mut [u32],
+) -> RunAnswer
+    requires { ⌜ Ready (policyBy policy (now slots) (now kept)) (beside [] (now marks)) (now slots) (now values) (listsOf (now fates) (now whens) (now bys)) ⌝ }
+    ensures { λ r. ⌜ outcome r (listsAfter fates whens bys) ≡ ran (now (slots .entry)) (now (values .entry)) (courseBy policy (now (kept .entry)) (now (marks .entry)) (now (slots .entry)) (now (values .entry))) ⌝ }
+{
+    let most = run(slots, values, policy, kept, marks, fates, whens, bys);
+    RunAnswer::Ran(totals(values, fates, most))
+}
+
+// A rule's run: it has no list of its own.
+fn finish_rule(
     slots: &[u32],
     values: &[u32],
     room: usize,
@@ -25,12 +54,12 @@ fn finish(
     whens: &mut [u32],
     bys: &mut [u32],
 ) -> RunAnswer
-    requires { ⌜ Ready (byRule (ruleOf room rule)) [] (now slots) (now values) (lists (now fates) (now whens) (now bys)) ⌝ }
-    requires { ⌜ 1 ≤ room ⌝ }
-    ensures { λ r. ⌜ outcome r (lists (now (fates .exit)) (now (whens .exit)) (now (bys .exit))) ≡ ran (now (slots .entry)) (now (values .entry)) (course (byRule (ruleOf room rule)) first [] (arrivals (now (slots .entry)) (now (values .entry)))) ⌝ }
+    requires { ⌜ Ready (byRule (ruleOf room rule)) [] (now slots) (now values) (listsOf (now fates) (now whens) (now bys)) ⌝ }
+    ensures { λ r. ⌜ outcome r (listsAfter fates whens bys) ≡ ran (now (slots .entry)) (now (values .entry)) (runBy (ruleOf room rule) (arrivals (now (slots .entry)) (now (values .entry)))) ⌝ }
 {
-    let most = run(slots, values, room, rule, fates, whens, bys);
-    RunAnswer::Ran(totals(values, fates, most))
+    let mut marks = [0u32; 0];
+    let policy = Policy::Rule(room, rule);
+    finish(slots, values, policy, &[], &mut marks, fates, whens, bys)
 }
 
 // Plain greedy.
@@ -42,11 +71,11 @@ pub fn greedy(
     whens: &mut [u32],
     bys: &mut [u32],
 ) -> RunAnswer
-    ensures { λ r. ⌜ outcome r (lists (now (fates .exit)) (now (whens .exit)) (now (bys .exit))) ≡ greedyCall (now (slots .entry)) (now (values .entry)) room (lists (now (fates .entry)) (now (whens .entry)) (now (bys .entry))) ⌝ }
+    ensures { λ r. ⌜ outcome r (listsAfter fates whens bys) ≡ greedyCall (now (slots .entry)) (now (values .entry)) room (listsBefore fates whens bys) ⌝ }
 {
     match trace::plain(slots, values, room, fates, whens, bys) {
         Checked::Refused(refusal) => RunAnswer::Refused(refusal),
-        Checked::Accepted => finish(slots, values, room, Rule::Greedy, fates, whens, bys),
+        Checked::Accepted => finish_rule(slots, values, room, Rule::Greedy, fates, whens, bys),
     }
 }
 
@@ -60,10 +89,102 @@ pub fn pg(
     whens: &mut [u32],
     bys: &mut [u32],
 ) -> RunAnswer
-    ensures { λ r. ⌜ outcome r (lists (now (fates .exit)) (now (whens .exit)) (now (bys .exit))) ≡ pgCall (now (slots .entry)) (now (values .entry)) room beta (lists (now (fates .entry)) (now (whens .entry)) (now (bys .entry))) ⌝ }
+    ensures { λ r. ⌜ outcome r (listsAfter fates whens bys) ≡ pgCall (now (slots .entry)) (now (values .entry)) room beta (listsBefore fates whens bys) ⌝ }
 {
     match trace::pg(slots, values, room, beta, fates, whens, bys) {
         Checked::Refused(refusal) => RunAnswer::Refused(refusal),
-        Checked::Accepted => finish(slots, values, room, Rule::PG(beta), fates, whens, bys),
+        Checked::Accepted => finish_rule(slots, values, room, Rule::PG(beta), fates, whens, bys),
+    }
+}
+
+// MF's run, with a mark for each packet of the trace.
+fn finish_mf(
+    slots: &[u32],
+    values: &[u32],
+    room: usize,
+    marking: Marking,
+    fates: &mut [u32],
+    whens: &mut [u32],
+    bys: &mut [u32],
+) -> RunAnswer
+    requires { ⌜ Ready (mfPolicy room marking (now slots)) (unmarked (length (now slots))) (now slots) (now values) (listsOf (now fates) (now whens) (now bys)) ⌝ }
+    ensures { λ r. ⌜ outcome r (listsAfter fates whens bys) ≡ ran (now (slots .entry)) (now (values .entry)) (mfRun room marking (now (slots .entry)) (now (values .entry))) ⌝ }
+{
+    let mut marks = [0u32; Record::PACKETS];
+    let n = slots.len();
+    let policy = Policy::Marking(room, marking);
+    finish(
+        slots,
+        values,
+        policy,
+        &[],
+        &mut marks[..n],
+        fates,
+        whens,
+        bys,
+    )
+}
+
+// MF.
+pub fn mf(
+    slots: &[u32],
+    values: &[u32],
+    room: usize,
+    marking: Marking,
+    fates: &mut [u32],
+    whens: &mut [u32],
+    bys: &mut [u32],
+) -> RunAnswer
+    ensures { λ r. ⌜ outcome r (listsAfter fates whens bys) ≡ mfCall (now (slots .entry)) (now (values .entry)) room marking (listsBefore fates whens bys) ⌝ }
+{
+    match trace::mf(slots, values, room, marking, fates, whens, bys) {
+        Checked::Refused(refusal) => RunAnswer::Refused(refusal),
+        Checked::Accepted => finish_mf(slots, values, room, marking, fates, whens, bys),
+    }
+}
+
+// The plan's run: which packets it keeps, then the run in which these are held.
+fn finish_plan(
+    slots: &[u32],
+    values: &[u32],
+    room: usize,
+    fates: &mut [u32],
+    whens: &mut [u32],
+    bys: &mut [u32],
+) -> RunAnswer
+    requires { ⌜ clear ≡ plainRefusal (now slots) (now values) room (listsOf (now fates) (now whens) (now bys)) ⌝ }
+    ensures { λ r. ⌜ outcome r (listsAfter fates whens bys) ≡ ran (now (slots .entry)) (now (values .entry)) (planRun room (arrivals (now (slots .entry)) (now (values .entry)))) ⌝ }
+{
+    let mut kept = [0u8; Record::PACKETS];
+    let n = slots.len();
+    keep(slots, values, room, &mut kept[..n]);
+    let mut marks = [0u32; 0];
+    finish(
+        slots,
+        values,
+        Policy::Kept,
+        &kept[..n],
+        &mut marks,
+        fates,
+        whens,
+        bys,
+    )
+}
+
+// The offline plan.
+pub fn plan(
+    slots: &[u32],
+    values: &[u32],
+    room: usize,
+    fates: &mut [u32],
+    whens: &mut [u32],
+    bys: &mut [u32],
+) -> RunAnswer
+    ensures { λ r. ⌜ outcome r (listsAfter fates whens bys) ≡ planCall (now (slots .entry)) (now (values .entry)) room (listsBefore fates whens bys) ⌝ }
+{
+    let tested = trace::plain(slots, values, room, fates, whens, bys);
+    match tested {
+        Checked::Refused(refusal) => RunAnswer::Refused(refusal),
+        Checked::Accepted => finish_plan(slots, values, room, fates, whens, bys),
     }
 }

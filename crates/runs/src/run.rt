@@ -1,73 +1,83 @@
-// The run of a rule over an accepted trace.
+// The one run of a policy whose queue is a window, over an accepted trace.
 ghost use mathlib.Core.List.{[]};
-ghost use Rattle.model.specs.Course.{byRule};
-ghost use Rattle.queue.specs.Choose.{ruleOf};
-ghost use Prim.Native.Nat.{_-_, _≤_, _<_};
+ghost use Prim.Native.Nat.{_-_, _<_};
 ghost use lib.ListN.{length};
-ghost use Rattle.steps.specs.Window.{windowOf, Within};
-ghost use Rattle.steps.specs.Step.{Stepped, arrival, turning};
-ghost use Rattle.entry.specs.Entry.{lists};
-ghost use Rattle.steps.specs.Run.{Runnable, Ran};
+ghost use Rattle.model.specs.Lent.{listsBefore, listsAfter};
+ghost use Rattle.steps.specs.Window.{Within};
+ghost use Rattle.steps.specs.Step.{arrival};
+ghost use Rattle.steps.specs.Run.{Runnable};
+ghost use Rattle.marks.specs.Mark.{beside};
+ghost use Rattle.flush.specs.Flush.{mfFrom, mfTo};
+ghost use Rattle.runs.specs.Policy.{policyBy, Does, turnBy, RanBy};
+use crate::policy::Policy;
+use crate::policy::arrive;
+use crate::policy::end_slots;
 use model::Packet;
 use model::PacketNumber;
 use model::Slot;
-use queue::Rule;
 use steps::PLACES;
 use steps::Window;
-use steps::moves::arrive;
-use steps::moves::hold;
-use steps::moves::send_until;
 
-// One packet of a trace: the ends of the slots before its own, then its arrival. A packet that finds nothing held is held at once: room is at least 1.
+// One packet of a trace: the ends of the slots before its own, then its arrival.
 fn take(
     numbers: &mut [u32],
     values: &mut [u32],
+    slots: &[u32],
+    kept: &[u8],
+    marks: &mut [u32],
     fates: &mut [u32],
     whens: &mut [u32],
     bys: &mut [u32],
+    policy: Policy,
     w: Window,
-    room: usize,
-    rule: Rule,
-    before: Slot,
+    last: Slot,
     slot: Slot,
     p: Packet,
 ) -> Window
     requires { ⌜ Within w (now numbers) (now values) ⌝ }
     requires { ⌜ w .tail - w .head < length (now values) ⌝ }
-    requires { ⌜ 1 ≤ room ⌝ }
-    ensures { λ r. ⌜ Stepped (turning (ruleOf room rule) before (arrival slot p) (windowOf w (now (numbers .entry)) (now (values .entry)))) (lists (now (fates .entry)) (now (whens .entry)) (now (bys .entry))) r (now (numbers .exit)) (now (values .exit)) (lists (now (fates .exit)) (now (whens .exit)) (now (bys .exit))) ⌝ }
+    ensures { λ r. ⌜ Does (turnBy policy (now (slots .entry)) (now (kept .entry)) last (arrival slot p)) (mfFrom w numbers values marks fates whens bys) (mfTo r numbers values marks fates whens bys) ⌝ }
 {
-    let left = send_until(numbers, values, fates, whens, bys, w, before, slot);
-    if left.head == left.tail {
-        return hold(numbers, values, left, p);
-    }
-    arrive(
+    let left = end_slots(
         numbers,
         values,
+        slots,
+        marks,
         fates,
         whens,
         bys,
+        policy,
+        w,
+        last,
+        slot,
+    );
+    arrive(
+        numbers,
+        values,
+        kept,
+        fates,
+        whens,
+        bys,
+        policy,
         left,
-        room,
-        rule,
         slot,
         p,
     )
 }
 
-// Writes the record of a rule's run, and answers the most held just after any arrival: the greatest length of the queue.
+// Writes the record of the run, and answers the most held just after any arrival: the greatest length of the queue.
 pub fn run(
     slots: &[u32],
     values: &[u32],
-    room: usize,
-    rule: Rule,
+    policy: Policy,
+    kept: &[u8],
+    marks: &mut [u32],
     fates: &mut [u32],
     whens: &mut [u32],
     bys: &mut [u32],
 ) -> u32
-    requires { ⌜ Runnable (byRule (ruleOf room rule)) [] (now slots) (now values) ⌝ }
-    requires { ⌜ 1 ≤ room ⌝ }
-    ensures { λ r. ⌜ Ran (byRule (ruleOf room rule)) [] (now (slots .entry)) (now (values .entry)) (lists (now (fates .entry)) (now (whens .entry)) (now (bys .entry))) (lists (now (fates .exit)) (now (whens .exit)) (now (bys .exit))) r ⌝ }
+    requires { ⌜ Runnable (policyBy policy (now slots) (now kept)) (beside [] (now marks)) (now slots) (now values) ⌝ }
+    ensures { λ r. ⌜ RanBy policy (now (kept .entry)) (now (marks .entry)) (now (slots .entry)) (now (values .entry)) (listsBefore fates whens bys) (listsAfter fates whens bys) r ⌝ }
 {
     let mut numbers = [0u32; PLACES];
     let mut held = [0u32; PLACES];
@@ -76,20 +86,25 @@ pub fn run(
     let mut most = 0;
     let mut i = 0;
     while i < slots.len() {
-        let slot = Slot(slots[i]);
+        let arrives = slots[i];
+        let slot = Slot(arrives);
+        let value = values[i];
+        let number = (i + 1) as u32;
         let p = Packet {
-            number: PacketNumber((i + 1) as u32),
-            value: values[i],
+            number: PacketNumber(number),
+            value,
         };
         w = take(
             &mut numbers,
             &mut held,
+            slots,
+            kept,
+            marks,
             fates,
             whens,
             bys,
+            policy,
             w,
-            room,
-            rule,
             last,
             slot,
             p,
@@ -101,7 +116,22 @@ pub fn run(
         last = slot;
         i += 1;
     }
-    let until = Slot(last.0 + (w.tail - w.head) as u32);
-    send_until(&numbers, &held, fates, whens, bys, w, last, until);
+    let left = w.tail - w.head;
+    let slots_left = left as u32;
+    let end = last.0 + slots_left;
+    let until = Slot(end);
+    end_slots(
+        &mut numbers,
+        &mut held,
+        slots,
+        marks,
+        fates,
+        whens,
+        bys,
+        policy,
+        w,
+        last,
+        until,
+    );
     most as u32
 }

@@ -13,7 +13,7 @@ use Rattle.model.specs.declared.Slot.{Slot}
 use Rattle.model.specs.Packets.{Arrival, slotsUntil, following, valuesOf}
 use Rattle.model.specs.Port.{packetsOf}
 use Rattle.model.specs.Record.{Lists, entered}
-use Rattle.model.specs.Course.{Decided, byRule, slotEnds}
+use Rattle.model.specs.Course.{Decided, heldIf, byRule, slotEnds}
 use Rattle.model.specs.Policies.Greedy.{without}
 use Rattle.queue.specs.declared.Rule.{Rule}
 use Rattle.queue.specs.declared.Choice.{Choice}
@@ -90,6 +90,23 @@ module _ (w : Window) (numbers values : List ℕ) where
         let holds : Held r (d .queue) =
         subst (λ (m : Moved). Held (m .lent) (d .queue)) (sym e) (placed-holds (decidedPlace (d .decision) all) (d .queue) all fits (within .same)) in
         record { within = holds .within; queue = holds .is; written = ap (λ (m : Moved). m .written) e }
+
+    -- held, or rejected
+    pub kept-steps : (keep : Bool) (a : Arrival) (before after : Lists) (r : Window) (numbers′ values′ : List ℕ)
+        → moved (lent r numbers′ values′) after ≡ arrivingIn (heldIf keep) a all before
+        → Stepped (arriving (heldIf keep) a queue) before r numbers′ values′ after
+    unfolding arrivingIn
+    kept-steps keep a before after r numbers′ values′ e =
+        decided-steps (heldIf keep) a (cond keep Hold Reject) (go keep) (same keep) (lent r numbers′ values′) before after
+        (e ∙ ap (λ (t : Bool). cond t (deciding a (heldIf keep queue (a .packet)) all before) (moved all before)) free)
+      where
+        go : (t : Bool) → Inside (length queue) (cond t Hold Reject)
+        go true = tt
+        go false = tt
+
+        same : (t : Bool) → heldIf t queue (a .packet) ≡ applied (cond t Hold Reject) queue (a .packet)
+        same true = refl
+        same false = refl
 
     pub arrived-steps : (room : ℕ) (rule : Rule) (a : Arrival) (before after : Lists) (r : Window) (numbers′ values′ : List ℕ)
         → moved (lent r numbers′ values′) after ≡ arrivingIn (ruleOf room rule) a all before

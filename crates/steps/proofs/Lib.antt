@@ -10,5 +10,4 @@ pub mod Lending
 pub mod Turning
 pub mod Places
 pub mod Coursing
-pub mod Running
 pub mod Answering

@@ -8,15 +8,15 @@ use lib.ListN.{length, take, drop, set, length-append, length-take, length-drop,
 use lib.Seq.{sets, length-sets, take-take, drop-drop}
 use borrow.Author.Tests.{lt-ltb, le-ltb}
 use Rattle.model.specs.declared.Packet.{Packet}
-use Rattle.model.specs.Packets.{valuesOf}
+use Rattle.model.specs.Packets.{valuesOf, numbersOf}
 use Rattle.model.specs.Port.{packetsOf}
 use Rattle.model.specs.Policies.Greedy.{without}
 use Rattle.queue.specs.Slide.{slid}
 use Rattle.queue.proofs.Moving.{slid-moved}
-use Rattle.port.proofs.Holding.{map-without, map-behind, packets-numbers, packets-both}
+use Rattle.queue.proofs.Packets.{map-without, map-behind, packets-numbers, packets-both}
 use Rattle.steps.specs.declared.Window.{Window}
 use Rattle.steps.specs.Window.{part, windowOf, Within, Holds}
-use Rattle.steps.specs.Lent.{Lent, lent, numbersOf, placed, openPlace}
+use Rattle.steps.specs.Lent.{Lent, lent, placed, openPlace}
 use Rattle.steps.proofs.Writing.{sets-over, sets-both, sets-part, sets-own, sets-read}
 use Rattle.steps.proofs.Windows.{window, take-drop}
 use Rattle.steps.proofs.Arriving.{parts-same, window-length, window-values}

@@ -1,8 +1,7 @@
 -- A window of two lent lists, to the last entry, and what each move leaves of it and of the record's lists.
 use Prim.Native.Nat.{ℕ, _+_, _-_, _<_}
 use mathlib.Core.Path.{_≡_}
-use denote.Ref.{RefT, now}
-use denote.Triple.Both.{Both}
+use denote.Ref.{now}
 use mathlib.Core.Bool.{cond}
 use mathlib.Core.List.{List, [], _∷_, _++_, map}
 use lib.ListN.{length}
@@ -10,8 +9,9 @@ use lib.Seq.{sets}
 use lib.Dec.{ltb}
 use Rattle.model.specs.declared.Packet.{Packet}
 use Rattle.model.specs.declared.Slot.{Slot}
-use Rattle.model.specs.Packets.{Arrival, valuesOf}
+use Rattle.model.specs.Packets.{Arrival, valuesOf, numbersOf}
 use Rattle.model.specs.Record.{Lists, entered}
+use Rattle.model.specs.Lent.{LentList, listsBefore, listsAfter}
 use Rattle.model.specs.Policies.Greedy.{without}
 use Rattle.model.specs.Course.{Decision, held, rejected, losing, Decided, Step, entriesOf}
 use Rattle.steps.specs.declared.Window.{Window}
@@ -28,10 +28,6 @@ pub record Lent : Type 0 where
 abbrev pub lent : Window → List ℕ → List ℕ → Lent
 lent w numbers values = record { window = w; numbers = numbers; values = values }
 
--- a list that is lent to a call, as it was and as it is left
-abbrev pub LentList : Type 0
-LentList = Both (RefT (List ℕ)) (RefT (List ℕ))
-
 -- a window and its two lists before a call, and after it
 abbrev pub lentBefore : Window → LentList → LentList → Lent
 lentBefore w numbers values = lent w (now (numbers .entry)) (now (values .entry))
@@ -39,20 +35,9 @@ lentBefore w numbers values = lent w (now (numbers .entry)) (now (values .entry)
 abbrev pub lentAfter : Window → LentList → LentList → Lent
 lentAfter w numbers values = lent w (now (numbers .exit)) (now (values .exit))
 
--- the record's three lists before a call, and after it
-abbrev pub listsBefore : LentList → LentList → LentList → Lists
-listsBefore fates whens bys = record { fates = now (fates .entry); whens = now (whens .entry); bys = now (bys .entry) }
-
-abbrev pub listsAfter : LentList → LentList → LentList → Lists
-listsAfter fates whens bys = record { fates = now (fates .exit); whens = now (whens .exit); bys = now (bys .exit) }
-
 -- the packets of the window, oldest first
 abbrev pub queueIn : Lent → List Packet
 queueIn l = windowOf (l .window) (l .numbers) (l .values)
-
--- the numbers of a queue
-abbrev pub numbersOf : List Packet → List ℕ
-numbersOf queue = map (λ (p : Packet). p .number .0) queue
 
 -- a queue written from a place on, which is the window then; all other entries are as before
 unfoldable pub placed : ℕ → List Packet → Lent → Lent

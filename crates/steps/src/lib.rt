@@ -1,6 +1,6 @@
 // What every run on a trace is made of: its queue, an arrival and the ends of slots. What a run needs of these is
 // public and takes all input; the rest is private.
-use port::Port;
+use checks::ranges::ROOM;
 
 mod held;
 pub mod moves;
@@ -14,4 +14,4 @@ pub struct Window {
 }
 
 // The places of the two lists that hold the queue: with twice the greatest room it moves to the start of its lists at most once in so many arrivals.
-pub const PLACES: usize = 2 * Port::ROOM;
+pub const PLACES: usize = 2 * ROOM;

@@ -2,11 +2,13 @@
 // nothing is written.
 ghost use mathlib.Core.Path.{_≡_};
 ghost use mathlib.Core.List.{[]};
+ghost use Rattle.model.specs.Course.{heldIf};
+ghost use Rattle.model.specs.Lent.{listsAfter};
 ghost use Rattle.queue.specs.Choose.{ruleOf};
 ghost use Rattle.steps.specs.Window.{windowOf, Oldest};
 ghost use Rattle.steps.specs.Step.{arrival};
 ghost use Rattle.steps.specs.Guarded.{Guarded, liesWithin, hasPlace};
-ghost use Rattle.steps.specs.Lent.{lentBefore, lentAfter, listsAfter, holding, moved, movedFrom, movedTo, on, arrivingIn, sendingIn};
+ghost use Rattle.steps.specs.Lent.{lentBefore, lentAfter, holding, moved, movedFrom, movedTo, on, arrivingIn, sendingIn};
 use crate::Window;
 use crate::held;
 use crate::step;
@@ -74,6 +76,26 @@ pub fn send_until(
         return w;
     }
     step::send_until(numbers, values, fates, whens, bys, w, from, until)
+}
+
+// An arrival that is held, or rejected.
+pub fn hold_or_reject(
+    numbers: &mut [u32],
+    values: &mut [u32],
+    fates: &mut [u32],
+    whens: &mut [u32],
+    bys: &mut [u32],
+    w: Window,
+    keep: bool,
+    slot: Slot,
+    p: Packet,
+) -> Window
+    ensures { λ r. ⌜ movedTo r numbers values fates whens bys ≡ on (arrivingIn (heldIf keep) (arrival slot p)) (movedFrom w numbers values fates whens bys) ⌝ }
+{
+    if !has_place(numbers, values, w) {
+        return w;
+    }
+    step::hold_or_reject(numbers, values, fates, whens, bys, w, keep, slot, p)
 }
 
 // An arrival under a rule.

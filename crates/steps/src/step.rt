@@ -2,10 +2,12 @@
 ghost use mathlib.Core.Path.{_≡_};
 ghost use Prim.Native.Nat.{_+_, _-_, _<_};
 ghost use lib.ListN.{length};
+ghost use Rattle.model.specs.Course.{heldIf};
+ghost use Rattle.model.specs.Lent.{listsAfter};
 ghost use Rattle.queue.specs.Choose.{ruleOf, applied};
 ghost use Rattle.steps.specs.Window.{Within};
 ghost use Rattle.steps.specs.Step.{arrival, sending};
-ghost use Rattle.steps.specs.Lent.{lentBefore, listsAfter, moved, movedFrom, movedTo, on, decidingBy, SentIn};
+ghost use Rattle.steps.specs.Lent.{lentBefore, moved, movedFrom, movedTo, on, decidingBy, SentIn};
 use crate::Window;
 use crate::held::hold;
 use crate::held::lose;
@@ -79,6 +81,29 @@ fn replace(
     enter(fates, whens, bys, lost, kind.fate(), slot, p.number);
     let rest = lose(numbers, values, w, place);
     hold(numbers, values, rest, p)
+}
+
+// An arrival that is held, or rejected.
+pub fn hold_or_reject(
+    numbers: &mut [u32],
+    values: &mut [u32],
+    fates: &mut [u32],
+    whens: &mut [u32],
+    bys: &mut [u32],
+    w: Window,
+    keep: bool,
+    slot: Slot,
+    p: Packet,
+) -> Window
+    requires { ⌜ Within w (now numbers) (now values) ⌝ }
+    requires { ⌜ w .tail - w .head < length (now values) ⌝ }
+    ensures { λ r. ⌜ movedTo r numbers values fates whens bys ≡ on (decidingBy (heldIf keep) (arrival slot p)) (movedFrom w numbers values fates whens bys) ⌝ }
+{
+    if keep {
+        return hold(numbers, values, w, p);
+    }
+    enter(fates, whens, bys, p.number, Fate::Rejected, slot, p.number);
+    w
 }
 
 // An arrival under a rule.

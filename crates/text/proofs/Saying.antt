@@ -13,10 +13,9 @@ use Rattle.model.specs.declared.RunAnswer.{RunAnswer}
 use Rattle.model.specs.declared.RunAnswer.the-variants.{Ran, Refused}
 use Rattle.model.specs.Limits.{recordLimits}
 use Rattle.model.specs.Packets.{arrivals}
-use Rattle.model.specs.Record.{Lists, rows}
+use Rattle.model.specs.Record.{Lists, rows, listsOf}
 use Rattle.model.specs.Answers.{causeNumber}
 use Rattle.model.specs.Calls.{Outcome, pgCall}
-use Rattle.entry.specs.Entry.{lists}
 use Rattle.steps.specs.Calls.{outcome}
 use Rattle.trace.proofs.Laws.{cause-refuses}
 use Rattle.text.specs.Output.{recordHeader, rowLines, refusalText}
@@ -45,10 +44,10 @@ zeros-length (suc n) zero h = absurd (omega arith)
 zeros-length (suc n) (suc m) h = ap suc (zeros-length n m (omega arith))
 
 pub blank-said : (slots values : List ℕ) (m : ℕ) → length slots ≤ m
-    → saidOf slots values (pgCall slots values benchRoom benchBeta (lists (take (length slots) (replicate m 0)) (take (length slots) (replicate m 0)) (take (length slots) (replicate m 0))))
+    → saidOf slots values (pgCall slots values benchRoom benchBeta (listsOf (take (length slots) (replicate m 0)) (take (length slots) (replicate m 0)) (take (length slots) (replicate m 0))))
     ≡ traceOutput slots values
 unfolding traceOutput
-blank-said slots values m h = ap (λ (l : List ℕ). saidOf slots values (pgCall slots values benchRoom benchBeta (lists l l l))) (zeros (length slots) m h)
+blank-said slots values m h = ap (λ (l : List ℕ). saidOf slots values (pgCall slots values benchRoom benchBeta (listsOf l l l))) (zeros (length slots) m h)
 
 pub answered-none : (read : Rows) (table out : List ℕ) → spoken read table out ≡ [] → Answered read table out 0 out
 answered-none read table out none = record { inside = omega arith; count = rw none refl; written = rw none refl }

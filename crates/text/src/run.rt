@@ -4,7 +4,7 @@ ghost use Prim.Native.Nat.{_≤_};
 ghost use lib.ListN.{length};
 ghost use Rattle.model.specs.Limits.{recordLimits};
 ghost use Rattle.model.specs.Calls.{pgCall};
-ghost use Rattle.entry.specs.Entry.{lists};
+ghost use Rattle.model.specs.Lent.{listsBefore};
 ghost use Rattle.text.specs.Bench.{benchRoom, benchBeta, saidOf, traceOutput};
 ghost use Rattle.text.specs.Writing.{Wrote, SameLengths};
 ghost use Rattle.text.specs.Says.{outputLimit};
@@ -35,7 +35,7 @@ fn say(
     requires { ⌜ SameLengths (now slots) (now values) (now fates) (now whens) (now bys) ⌝ }
     requires { ⌜ length (now slots) ≤ recordLimits .packets ⌝ }
     requires { ⌜ outputLimit ≤ length (now out) ⌝ }
-    ensures { λ r. ⌜ Wrote 0 (saidOf (now (slots .entry)) (now (values .entry)) (pgCall (now (slots .entry)) (now (values .entry)) benchRoom benchBeta (lists (now (fates .entry)) (now (whens .entry)) (now (bys .entry))))) (now (out .entry)) r (now (out .exit)) ⌝ }
+    ensures { λ r. ⌜ Wrote 0 (saidOf (now (slots .entry)) (now (values .entry)) (pgCall (now (slots .entry)) (now (values .entry)) benchRoom benchBeta (listsBefore fates whens bys))) (now (out .entry)) r (now (out .exit)) ⌝ }
 {
     let beta = Beta { num: NUM, den: DEN };
     match runs::calls::pg(slots, values, ROOM, beta, fates, whens, bys) {

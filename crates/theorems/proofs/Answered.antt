@@ -7,7 +7,7 @@ use lib.Dec.{eqb}
 use borrow.Author.Tests.{eqb-true, eqb-false}
 use Rattle.model.specs.Packets.{arrivals}
 use Rattle.model.specs.Record.{Lists, rows}
-use Rattle.model.specs.Rules.{Buffer, Verdict, Obeys, firstFault, orElse}
+use Rattle.model.specs.Rules.{Buffer, Verdict, Obeys, firstFault, orElse, bufferOf}
 use Rattle.model.specs.Refusals.{plainRefusal}
 use Rattle.model.specs.Policies.Greedy.{greedyRun}
 use Rattle.model.specs.Policies.Plan.{planRun}
@@ -29,7 +29,7 @@ not-refused v lists outcome = go (eqb (v .number) 0) refl
 -- an audit that answers number 0 found nothing to refuse and no fault
 record Passes (slots values : List ℕ) (room : ℕ) (lists : Lists) : Type 0 where
   accepted : plainRefusal slots values room lists .number ≡ 0
-  obeys : Obeys (record { slots = slots; room = room }) (rows (arrivals slots values) lists)
+  obeys : Obeys (bufferOf slots room) (rows (arrivals slots values) lists)
   says : auditCall slots values room lists ≡ replyWith slots values lists
 
 passes : (slots values : List ℕ) (room : ℕ) (lists : Lists) → auditCall slots values room lists .number ≡ 0 → Passes slots values room lists
@@ -37,7 +37,7 @@ unfolding auditCall
 passes slots values room lists z = go (eqb (v .number) 0) refl z refl
   where
     B : Buffer
-    B = record { slots = slots; room = room }
+    B = bufferOf slots room
 
     v : Verdict
     v = orElse (plainRefusal slots values room lists) (firstFault B (rows (arrivals slots values) lists))

@@ -11,7 +11,7 @@ use Rattle.model.specs.declared.Fault.{Fault}
 use Rattle.model.specs.declared.Fault.the-variants.{FateOutside, ByWrong, WhenWrong, NotLater, OverRoom}
 use Rattle.model.specs.Packets.{arrivalsFrom, arrivals}
 use Rattle.model.specs.Record.{Row, Lists, rowsOf, rows}
-use Rattle.model.specs.Rules.{Buffer, Verdict, Faultless, ObeysFrom, orElse, faultAt, firstFaultFrom, firstFault}
+use Rattle.model.specs.Rules.{Buffer, Verdict, Faultless, ObeysFrom, orElse, faultAt, firstFaultFrom, firstFault, bufferOf}
 use Rattle.model.specs.Refusals.{plainRefusal}
 use Rattle.model.specs.Answers.{Reply, faultNumber}
 use Rattle.model.specs.Calls.{replyTo, replyWith, auditCall}
@@ -129,7 +129,7 @@ numbered-at n (q ∷ lower) r higher N = omega (arith, numbered-at (suc n) lower
 
 module _ (slots values : List ℕ) (room : ℕ) (lists : Lists) (z : plainRefusal slots values room lists .number ≡ 0) where
   abbrev buffer : Buffer
-  buffer = record { slots = slots; room = room }
+  buffer = bufferOf slots room
 
   abbrev verdict : Verdict
   verdict = firstFault buffer (rows (arrivals slots values) lists)
@@ -148,12 +148,12 @@ module _ (slots values : List ℕ) (room : ℕ) (lists : Lists) (z : plainRefusa
 pub audit-passes : AuditPasses
 audit-passes slots values room lists z =
     let number = answer-number slots values room lists z in
-    let clear = obeys-iff-clear (record { slots = slots; room = room }) (rows (arrivals slots values) lists) in
+    let clear = obeys-iff-clear (bufferOf slots room) (rows (arrivals slots values) lists) in
     (λ h. clear .1 (sym number ∙ h), λ h. number ∙ ap (λ (v : Verdict). v .number) (clear .0 h))
 
 pub audit-names : AuditNames
 audit-names slots values room lists z h =
-    let B : Buffer = record { slots = slots; room = room } in
+    let B : Buffer = bufferOf slots room in
     let number = answer-number slots values room lists z in
     let named : firstFault B (rows (arrivals slots values) lists) .number ≡ 0 → ⊥ = λ e. h (number ∙ e) in
     let S = splits B [] (rows (arrivals slots values) lists) named in

@@ -6,7 +6,7 @@ use native.Mathlib.Omega.{arith}
 use Rattle.model.specs.declared.Packet.{Packet}
 use Rattle.model.specs.Packets.{Arrival, arrivals}
 use Rattle.model.specs.Record.{Row, Lists, rows}
-use Rattle.model.specs.Rules.{Obeys}
+use Rattle.model.specs.Rules.{Obeys, bufferOf}
 use Rattle.model.specs.Course.{Decided, first, runBy}
 use Rattle.model.specs.Refusals.{plainRefusal}
 use Rattle.model.specs.Policies.Greedy.{greedyRule}
@@ -30,21 +30,21 @@ use Rattle.theorems.proofs.PlanSends.{all-placed, keptHigh, high-fits, 
 
 -- the two walks, of rows that lie over a trace
 twice-over : (w room : ℕ) (rule : List Packet → Packet → Decided) → PushesOut room rule → (slots : List ℕ) (trace : List Arrival) (rows : List Row)
-    → traceOf rows ≡ trace → Comes slots 1 0 trace → Obeys (record { slots = slots; room = room }) rows
+    → traceOf rows ≡ trace → Comes slots 1 0 trace → Obeys (bufferOf slots room) rows
     → sentAtLeast w rows ≤ 2 * hiIn w (sentBy rule first [] trace)
 twice-over w room rule pushes slots trace rows over =
     subst
-    (λ (t : List Arrival). Comes slots 1 0 t → Obeys (record { slots = slots; room = room }) rows
+    (λ (t : List Arrival). Comes slots 1 0 t → Obeys (bufferOf slots room) rows
     → sentAtLeast w rows ≤ 2 * hiIn w (sentBy rule first [] t))
     over (sent-twice w room rule pushes slots rows)
 
 most-over : (w room : ℕ) (set : ℕ → ℕ) (slots : List ℕ) (trace : List Arrival) (rows : List Row)
-    → traceOf rows ≡ trace → Comes slots 1 0 trace → Obeys (record { slots = slots; room = room }) rows
+    → traceOf rows ≡ trace → Comes slots 1 0 trace → Obeys (bufferOf slots room) rows
     → Fits room set first 0 trace → Each (Blocks w room set first 0 trace) trace
     → sentAtLeast w rows ≤ setIn set trace
 most-over w room set slots trace rows over =
     subst
-    (λ (t : List Arrival). Comes slots 1 0 t → Obeys (record { slots = slots; room = room }) rows
+    (λ (t : List Arrival). Comes slots 1 0 t → Obeys (bufferOf slots room) rows
     → Fits room set first 0 t → Each (Blocks w room set first 0 t) t → sentAtLeast w rows ≤ setIn set t)
     over (sent-most w room set slots rows)
 
@@ -53,7 +53,7 @@ pub lines-pushing-out : (room : ℕ) (rule : List Packet → Packet → Decided)
     → ((queue : List Packet) (p : Packet) → Fair queue p (rule queue p))
     → (slots values : List ℕ) (lists : Lists)
     → plainRefusal slots values room lists .number ≡ 0
-    → Obeys (record { slots = slots; room = room }) (rows (arrivals slots values) lists)
+    → Obeys (bufferOf slots room) (rows (arrivals slots values) lists)
     → (w : ℕ) → sentAtLeast w (rows (arrivals slots values) lists) ≤ 2 * sentAtLeast w (rowsRun slots values (runBy rule (arrivals slots values)))
 lines-pushing-out room rule pushes fair slots values lists e o w =
     let c = plain-accepted slots values room lists e in

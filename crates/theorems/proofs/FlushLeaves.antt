@@ -18,7 +18,8 @@ use Rattle.model.specs.Limits.{recordLimits}
 use Rattle.model.specs.Refusals.{valueOk, markingOk, loOrHi, packetRefusalFrom, mfRefusal}
 use Rattle.model.specs.Course.{Policy, sendOldest, slotEnds, first}
 use Rattle.model.specs.Policies.Greedy.{greedyRule}
-use Rattle.model.specs.Policies.MF.{Marking, Marked, isMarked, goesWith, markDown, markFrom, marksAfter, unflushed, headMark, mfPolicy, unmarked}
+use Rattle.model.specs.declared.Marking.{Marking}
+use Rattle.model.specs.Policies.MF.{Marked, isMarked, goesWith, markDown, markFrom, marksAfter, unflushed, headMark, mfPolicy, unmarked}
 use Rattle.laws.proofs.Cases.{cond-cases, below-cases}
 use Rattle.laws.proofs.FirstFault.{orElse-zero, verdictIf-zero}
 use Rattle.laws.proofs.Fifo.{greedy-fair, flush-parted}

@@ -13,7 +13,7 @@ use Rattle.model.specs.declared.Fate.the-variants.{Sent}
 use Rattle.model.specs.Packets.{Arrival, slotsUntil}
 use Rattle.model.specs.Record.{Row}
 use Rattle.model.specs.Course.{first}
-use Rattle.model.specs.Rules.{Buffer, Obeys, ObeysFrom, hasFate, countOf}
+use Rattle.model.specs.Rules.{Buffer, Obeys, ObeysFrom, hasFate, countOf, bufferOf}
 use Rattle.theorems.specs.Demand3.{sentAtLeast}
 use Rattle.theorems.proofs.Each.{Each, each-map, each-both}
 use Rattle.laws.proofs.Standing.{Comes}
@@ -106,7 +106,7 @@ module _ (w room : ℕ) (set : ℕ → ℕ) where
 
   most-walk : (slots : List ℕ) (k came b : ℕ) (now : Slot) (older rows : List Row)
       → Comes slots (now .0) k (traceOf rows)
-      → ObeysFrom (record { slots = slots; room = room }) older rows
+      → ObeysFrom (bufferOf slots room) older rows
       → SoFar w room (now .0) older
       → Fits room set now b (traceOf rows)
       → Each (Blocks now b (traceOf rows)) (traceOf rows)
@@ -117,7 +117,7 @@ module _ (w room : ℕ) (set : ℕ → ℕ) where
   most-walk slots k came b now older [] a o s f blocks busy slack =
       omega (arith, at-end room b came (sentAtLeast w older) (sentBefore w (now .0) older) (leb room b) refl (s .held) busy slack)
   most-walk slots k came b now older (r ∷ rows) a o s f blocks busy slack =
-      let B : Buffer = record { slots = slots; room = room } in
+      let B : Buffer = bufferOf slots room in
       let p = arrivalOf r in
       let gap = slotsUntil now (r .slot) in
       let here = so-far w B older r (o .0) (s .order) in
@@ -137,7 +137,7 @@ module _ (w room : ℕ) (set : ℕ → ℕ) where
             (λ e. omega (arith, gapped .1 e, takes-in r (set (placeIn p)) (λ v. must-be-in slots now b k p (traceOf rows) a f e v (blocks .0)))),
       )
 
-  pub sent-most : (slots : List ℕ) (rows : List Row) → Comes slots 1 0 (traceOf rows) → Obeys (record { slots = slots; room = room }) rows
+  pub sent-most : (slots : List ℕ) (rows : List Row) → Comes slots 1 0 (traceOf rows) → Obeys (bufferOf slots room) rows
       → Fits room set first 0 (traceOf rows)
       → Each (Blocks first 0 (traceOf rows)) (traceOf rows)
       → sentAtLeast w rows ≤ setIn set (traceOf rows)

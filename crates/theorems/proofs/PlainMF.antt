@@ -16,7 +16,8 @@ use Rattle.model.specs.Rules.{Verdict, clear, orElse, verdictIf}
 use Rattle.model.specs.Refusals.{valueOk, loOrHi, packetRefusalFrom, plainRefusal, mfRefusal}
 use Rattle.model.specs.Course.{Step, Policy, andThen, byRule, sendOldest, slotEnds, course, first}
 use Rattle.model.specs.Policies.Greedy.{greedyRule}
-use Rattle.model.specs.Policies.MF.{Marking, Marked, markDown, markFrom, marksAfter, flushed, unflushed, headMark, mfPolicy}
+use Rattle.model.specs.declared.Marking.{Marking}
+use Rattle.model.specs.Policies.MF.{Marked, markDown, markFrom, marksAfter, flushed, unflushed, headMark, mfPolicy}
 use Rattle.model.specs.Calls.{Outcome, ran, runUnless, greedyCall, mfCall}
 use Rattle.laws.proofs.Room.{zeros}
 use Rattle.laws.proofs.FirstFault.{orElse-zero, verdictIf-zero}

@@ -122,7 +122,7 @@ held-or-before w at r = go (hasFate Sent r) (leb w (r .value)) (leb (at .slot .0
 sent-later : (B : Buffer) (older : List Row) (r : Row) (w : ℕ) → Faultless B older r
     → _≡_ {A = ℕ} (cond (isSentHi w r && ltb (r .when .0) (r .slot .0)) 1 0) 0
 unfolding whenWrong atFate
-sent-later B older r w h = go (hasFate Sent r) (leb w (r .value)) (ltb (r .when .0) (r .slot .0)) _ (h .2)
+sent-later B older r w h = go (hasFate Sent r) (leb w (r .value)) (ltb (r .when .0) (r .slot .0)) _ (h .when)
   where
     go : (s v e x : Bool) → cond s e x ≡ false → _≡_ {A = ℕ} (cond (s && v && e) 1 0) 0
     go false v e x h = refl
@@ -140,11 +140,11 @@ module _ (w : ℕ) (B : Buffer) (older : List Row) (r : Row) (h : Faultless B ol
   unfolding sentBefore sentAtLeast overRoom
   so-far o =
       record {
-        order = (h .3, o);
+        order = (h .later, o);
         held = omega (
           arith,
           count-split (isSentHi w) (λ x. isSentHi w x && ltb (x .when .0) (r .slot .0)) (isHeldAt r)
               (held-or-before w r) (r ∷ older),
-          ltb-false (B .room) (countOf (isHeldAt r) (r ∷ older)) (h .4),
+          ltb-false (B .room) (countOf (isHeldAt r) (r ∷ older)) (h .within-room),
         );
       }

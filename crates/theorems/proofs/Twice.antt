@@ -14,7 +14,7 @@ use Rattle.model.specs.declared.Packet.{Packet}
 use Rattle.model.specs.declared.Fate.the-variants.{Sent}
 use Rattle.model.specs.Record.{Row}
 use Rattle.model.specs.Course.{Decided, first}
-use Rattle.model.specs.Rules.{Buffer, Obeys, ObeysFrom, hasFate, countOf}
+use Rattle.model.specs.Rules.{Buffer, Obeys, ObeysFrom, hasFate, countOf, bufferOf}
 use Rattle.theorems.specs.Demand3.{sentAtLeast}
 use Rattle.laws.proofs.Standing.{Comes}
 use Rattle.theorems.proofs.Trace.{arrivalOf, traceOf}
@@ -121,7 +121,7 @@ module _ (w room : ℕ) (rule : List Packet → Packet → Decided) (pushes : Pu
   -- the whole walk
   twice-walk : (slots : List ℕ) (k g : ℕ) (now : Slot) (queue : List Packet) (older rows : List Row)
       → Comes slots (now .0) k (traceOf rows)
-      → ObeysFrom (record { slots = slots; room = room }) older rows
+      → ObeysFrom (bufferOf slots room) older rows
       → SoFar w room (now .0) older
       → Twice (sentAtLeast w older) (sentBefore w (now .0) older) g (hiIn w queue) (hiRun w queue)
       → sentAtLeast w older + sentAtLeast w rows ≤ 2 * (g + hiIn w (sentBy rule now queue (traceOf rows)))
@@ -129,7 +129,7 @@ module _ (w room : ℕ) (rule : List Packet → Packet → Decided) (pushes : Pu
   twice-walk slots k g now queue older [] a o s (level j) = omega arith
   twice-walk slots k g now queue older [] a o s (ahead j i) = omega (arith, run-hi w queue)
   twice-walk slots k g now queue older (r ∷ rows) a o s j =
-      let B : Buffer = record { slots = slots; room = room } in
+      let B : Buffer = bufferOf slots room in
       let gap = r .slot .0 - now .0 in
       let left = drop gap queue in
       let e = g + hiIn w (take gap queue) in
@@ -144,7 +144,7 @@ module _ (w room : ℕ) (rule : List Packet → Packet → Decided) (pushes : Pu
         hi-append w (take gap queue) (sentBy rule (r .slot) (rule left (arrivalOf r .packet) .queue) (traceOf rows)),
       )
 
-  pub sent-twice : (slots : List ℕ) (rows : List Row) → Comes slots 1 0 (traceOf rows) → Obeys (record { slots = slots; room = room }) rows
+  pub sent-twice : (slots : List ℕ) (rows : List Row) → Comes slots 1 0 (traceOf rows) → Obeys (bufferOf slots room) rows
       → sentAtLeast w rows ≤ 2 * hiIn w (sentBy rule first [] (traceOf rows))
   unfolding sentAtLeast sentBefore countOf hiIn
   sent-twice slots rows a o =

@@ -10,7 +10,7 @@ use Rattle.model.specs.declared.Fault.{Fault}
 use Rattle.model.specs.declared.Fault.the-variants.{FateOutside, ByWrong, WhenWrong, NotLater, OverRoom}
 use Rattle.model.specs.Packets.{arrivals}
 use Rattle.model.specs.Record.{Row, Lists, rows}
-use Rattle.model.specs.Rules.{Buffer, Obeys, fateOutside, byWrong, whenWrong, notLater, overRoom}
+use Rattle.model.specs.Rules.{Buffer, Obeys, fateOutside, byWrong, whenWrong, notLater, overRoom, bufferOf}
 use Rattle.model.specs.Refusals.{plainRefusal}
 use Rattle.model.specs.Answers.{Reply, faultNumber}
 use Rattle.model.specs.Calls.{auditCall}
@@ -43,7 +43,7 @@ abbrev pub OfEachAudit : (Buffer → List Row → Reply → Type 0) → Type 0
 OfEachAudit P =
     (slots values : List ℕ) (room : ℕ) (lists : Lists)
     → plainRefusal slots values room lists .number ≡ 0
-    → P (record { slots = slots; room = room }) (rows (arrivals slots values) lists) (auditCall slots values room lists)
+    → P (bufferOf slots room) (rows (arrivals slots values) lists) (auditCall slots values room lists)
 
 -- the audit answers 0 if and only if the record obeys the rules
 abbrev pub AuditPasses : Type 0

@@ -10,7 +10,7 @@ use lib.Dec.{leb}
 use Rattle.model.specs.declared.Fate.the-variants.{Sent}
 use Rattle.model.specs.Packets.{arrivals}
 use Rattle.model.specs.Record.{Row, Entry, Lists, recordOf, rows}
-use Rattle.model.specs.Rules.{Obeys, hasFate, countOf}
+use Rattle.model.specs.Rules.{Obeys, hasFate, countOf, bufferOf}
 use Rattle.model.specs.Totals.{totalsOf}
 use Rattle.model.specs.Refusals.{plainRefusal}
 use Rattle.model.specs.Policies.Greedy.{greedyRun}
@@ -40,7 +40,7 @@ abbrev pub OfEachLawful : (List ℕ → List ℕ → ℕ → List Row → Type 0
 OfEachLawful P =
     (slots values : List ℕ) (room : ℕ) (lists : Lists)
     → plainRefusal slots values room lists .number ≡ 0
-    → Obeys (record { slots = slots; room = room }) (rows (arrivals slots values) lists)
+    → Obeys (bufferOf slots room) (rows (arrivals slots values) lists)
     → P slots values room (rows (arrivals slots values) lists)
 
 abbrev pub LinesPlan : Type 0
@@ -66,7 +66,7 @@ abbrev pub PlanObeys : Type 0
 PlanObeys =
     (slots values : List ℕ) (room : ℕ) (lists : Lists)
     → plainRefusal slots values room lists .number ≡ 0
-    → Obeys (record { slots = slots; room = room }) (planRows slots values room)
+    → Obeys (bufferOf slots room) (planRows slots values room)
 
 -- demand 3 of what the calls answer: a passing audit's totals against those of a run that is not refused, whatever lists are lent to it
 abbrev pub TotalsPlan : Type 0

@@ -9,7 +9,8 @@ use Rattle.model.specs.Packets.{Arrival, arrivals, slotsUntil, following}
 use Rattle.model.specs.Record.{Lists}
 use Rattle.model.specs.Refusals.{mfRefusal}
 use Rattle.model.specs.Course.{Policy, slotEnds, first}
-use Rattle.model.specs.Policies.MF.{Marking, Marked, marksAfter, unflushed, headMark, mfPolicy, unmarked}
+use Rattle.model.specs.declared.Marking.{Marking}
+use Rattle.model.specs.Policies.MF.{Marked, marksAfter, unflushed, headMark, mfPolicy, unmarked}
 
 -- what holds at each of the ends of n slots at which something is held
 abbrev pub AtEnds : {S : Type 0} → (Slot → S → Type 0) → Policy S → ℕ → Slot → S → Type 0

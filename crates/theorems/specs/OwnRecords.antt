@@ -11,7 +11,8 @@ use Rattle.model.specs.Packets.{arrivals}
 use Rattle.model.specs.Record.{Entry, Lists, entered}
 use Rattle.model.specs.Policies.Greedy.{greedyRun}
 use Rattle.model.specs.Policies.PG.{pgRun}
-use Rattle.model.specs.Policies.MF.{Marking, mfRun}
+use Rattle.model.specs.declared.Marking.{Marking}
+use Rattle.model.specs.Policies.MF.{mfRun}
 use Rattle.model.specs.Policies.Plan.{planRun}
 use Rattle.model.specs.Calls.{Outcome, greedyCall, pgCall, mfCall, planCall, auditCall}
 use Rattle.laws.proofs.Times.{timesEntered}

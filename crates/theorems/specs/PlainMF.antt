@@ -7,7 +7,8 @@ use Rattle.model.specs.Packets.{arrivals}
 use Rattle.model.specs.Record.{Lists}
 use Rattle.model.specs.Refusals.{mfRefusal}
 use Rattle.model.specs.Policies.Greedy.{greedyRun}
-use Rattle.model.specs.Policies.MF.{Marking, mfRun}
+use Rattle.model.specs.declared.Marking.{Marking}
+use Rattle.model.specs.Policies.MF.{mfRun}
 use Rattle.model.specs.Calls.{greedyCall, mfCall}
 
 -- MF that marks nothing

@@ -27,7 +27,7 @@ use Rattle.checks.proofs.Tests.{left-part}
 -- a call takes no value that is out of range
 pub refuses : (taken : Values) (v : ℕ) → valueOk v ≡ false → okOf taken v ≡ false
 refuses InRange v e = e
-refuses (LoOrHi lo hi) v e = rw e
+refuses (LoOrHi marking) v e = rw e
 
 -- what the walk answers from the packet at place i on
 abbrev pub restFrom : (ℕ → Bool) → List ℕ → List ℕ → Slot → ℕ → Verdict
@@ -63,18 +63,18 @@ abbrev refusal : ℕ → Verdict
 refusal number = record { number = number; place = 0 }
 
 -- the first of the tests that fails gives the answer
-pub record Order (own : Bool) (ok : ℕ → Bool) (slots values : List ℕ) (room : ℕ) (lists : Lists) (answer : Verdict) : Type 0 where
+pub record Order (own : Verdict) (ok : ℕ → Bool) (slots values : List ℕ) (room : ℕ) (lists : Lists) (answer : Verdict) : Type 0 where
   pub by-lengths : lengthsEqual slots values lists ≡ false → answer ≡ refusal 1
   pub by-packets : lengthsEqual slots values lists ≡ true → leb (length slots) (recordLimits .packets) ≡ false → answer ≡ refusal 2
   pub by-room : lengthsEqual slots values lists ≡ true → leb (length slots) (recordLimits .packets) ≡ true → roomOk room ≡ false
       → answer ≡ refusal 3
-  pub by-own : lengthsEqual slots values lists ≡ true → leb (length slots) (recordLimits .packets) ≡ true → roomOk room ≡ true → own ≡ false
-      → answer ≡ refusal 4
-  pub by-none : lengthsEqual slots values lists ≡ true → leb (length slots) (recordLimits .packets) ≡ true → roomOk room ≡ true → own ≡ true
+  pub by-own : lengthsEqual slots values lists ≡ true → leb (length slots) (recordLimits .packets) ≡ true → roomOk room ≡ true → eqb (own .number) 0 ≡ false
+      → answer ≡ own
+  pub by-none : lengthsEqual slots values lists ≡ true → leb (length slots) (recordLimits .packets) ≡ true → roomOk room ≡ true → own ≡ clear
       → answer ≡ packetRefusal ok slots values
 
-pub order : (own : Bool) (ok : ℕ → Bool) (slots values : List ℕ) (room : ℕ) (lists : Lists)
-    → Order own ok slots values room lists (traceRefusal (unless own causes.Parameters) ok slots values room lists)
+pub order : (own : Verdict) (ok : ℕ → Bool) (slots values : List ℕ) (room : ℕ) (lists : Lists)
+    → Order own ok slots values room lists (traceRefusal own ok slots values room lists)
 unfolding orElse
 order own ok slots values room lists =
     record {

@@ -8,7 +8,6 @@ use lib.Dec.{eqb}
 use Rattle.model.specs.Limits.{recordLimits}
 use Rattle.model.specs.Record.{Lists}
 use Rattle.model.specs.Rules.{Verdict, clear}
-use Rattle.model.specs.Policies.MF.{Marking}
 use Rattle.model.specs.Refusals.{valueOk, loOrHi}
 use Rattle.model.specs.Numbers.{causeNumber}
 use Rattle.trace.specs.declared.Checked.{Checked}
@@ -21,18 +20,10 @@ abbrev pub verdictOf : Checked → Verdict
 verdictOf Accepted = clear
 verdictOf (Refused f) = record { number = causeNumber (f .cause); place = f .place }
 
--- three lists as one record
-abbrev pub listsOf : List ℕ → List ℕ → List ℕ → Lists
-listsOf fates whens bys = record { fates = fates; whens = whens; bys = bys }
-
--- MF's parameters
-abbrev pub markingOf : ℕ → ℕ → ℕ → Marking
-markingOf lo hi r = record { lo = lo; hi = hi; r = r }
-
 -- which values a call takes
 abbrev pub okOf : Values → ℕ → Bool
 okOf InRange v = valueOk v
-okOf (LoOrHi lo hi) v = loOrHi (markingOf lo hi 0) v
+okOf (LoOrHi marking) v = loOrHi marking v
 
 -- all lists are as long as that of the slots
 abbrev pub lengthsEqual : List ℕ → List ℕ → Lists → Bool

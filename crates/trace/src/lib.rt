@@ -3,19 +3,20 @@ ghost use mathlib.Core.Path.{_≡_};
 ghost use mathlib.Core.Bool.{true};
 ghost use lib.ListN.{length};
 ghost use Rattle.model.specs.Rules.{clear};
-ghost use Rattle.model.specs.declared.Cause.the-variants.{Parameters};
-ghost use Rattle.model.specs.Refusals.{unless, markingOk, slotOk, packetRefusal, traceRefusal, plainRefusal, pgRefusal, mfRefusal};
-ghost use Rattle.trace.specs.Checked.{verdictOf, listsOf, markingOf, okOf, lengthsEqual, Lengths};
+ghost use Rattle.model.specs.Refusals.{unless as unlessOk, markingOk, slotOk, packetRefusal, traceRefusal, plainRefusal, pgRefusal, mfRefusal};
+ghost use Rattle.model.specs.Lent.{listsBefore};
+ghost use Rattle.trace.specs.Checked.{verdictOf, okOf, lengthsEqual, Lengths};
 ghost use Rattle.trace.specs.Fitting.{SlotsFit};
+use checks::ranges::beta_ok;
+use checks::ranges::room_ok;
 use checks::value_ok;
 use checks::values_ok;
 use model::Beta;
 use model::Cause;
+use model::Marking;
 use model::Record;
 use model::Refusal;
 use model::Slot;
-use port::ranges::beta_ok;
-use port::ranges::room_ok;
 
 // What the test of a trace answers.
 pub enum Checked {
@@ -26,7 +27,7 @@ pub enum Checked {
 // Which values a call takes: all that are in range, or of these only lo and hi.
 enum Values {
     InRange,
-    LoOrHi(u32, u32),
+    LoOrHi(Marking),
 }
 
 fn slot_ok(before: Slot, slot: Slot) -> bool
@@ -49,13 +50,20 @@ fn value_taken(taken: Values, value: u32) -> bool
     }
     match taken {
         Values::InRange => true,
-        Values::LoOrHi(lo, hi) => value == lo || value == hi,
+        Values::LoOrHi(marking) => {
+            let lo = marking.lo;
+            let hi = marking.hi;
+            value == lo || value == hi
+        }
     }
 }
 
-fn marking_ok(lo: u32, hi: u32, r: usize) -> bool
-    ensures { λ ok. ⌜ ok ≡ markingOk (markingOf lo hi r) ⌝ }
+fn marking_ok(marking: Marking) -> bool
+    ensures { λ ok. ⌜ ok ≡ markingOk marking ⌝ }
 {
+    let lo = marking.lo;
+    let hi = marking.hi;
+    let r = marking.r;
     if !value_ok(lo) {
         return false;
     }
@@ -126,7 +134,7 @@ fn all_fit(slots: &[u32], values: &[u32], taken: Values) -> bool
             }
             values_ok(values)
         }
-        Values::LoOrHi(_, _) => false,
+        Values::LoOrHi(_) => false,
     }
 }
 
@@ -142,7 +150,7 @@ fn packets_or_none(slots: &[u32], values: &[u32], taken: Values) -> Checked
 }
 
 fn lengths_equal(slots: &[u32], values: &[u32], fates: &[u32], whens: &[u32], bys: &[u32]) -> bool
-    ensures { λ r. ⌜ r ≡ lengthsEqual (now (slots .entry)) (now (values .entry)) (listsOf (now (fates .entry)) (now (whens .entry)) (now (bys .entry))) ⌝ }
+    ensures { λ r. ⌜ r ≡ lengthsEqual (now (slots .entry)) (now (values .entry)) (listsBefore fates whens bys) ⌝ }
 {
     let n = slots.len();
     if values.len() != n {
@@ -164,7 +172,18 @@ fn refused(cause: Cause) -> Checked
     Checked::Refused(Refusal { cause, place: 0 })
 }
 
-// Every call on a trace: 1, 2, 3, 4 unless its own parameters pass, then 5 and 6.
+// A call's own test of a parameter.
+fn unless(ok: bool, cause: Cause) -> Checked
+    ensures { λ r. ⌜ verdictOf r ≡ unlessOk ok cause ⌝ }
+{
+    if ok {
+        Checked::Accepted
+    } else {
+        refused(cause)
+    }
+}
+
+// Every call on a trace: 1, 2, 3, what the tests of its own parameters say, then 5 and 6.
 fn in_order(
     slots: &[u32],
     values: &[u32],
@@ -172,10 +191,10 @@ fn in_order(
     fates: &[u32],
     whens: &[u32],
     bys: &[u32],
-    own: bool,
+    own: Checked,
     taken: Values,
 ) -> Checked
-    ensures { λ r. ⌜ verdictOf r ≡ traceRefusal (unless own Parameters) (okOf taken) (now (slots .entry)) (now (values .entry)) room (listsOf (now (fates .entry)) (now (whens .entry)) (now (bys .entry))) ⌝ }
+    ensures { λ r. ⌜ verdictOf r ≡ traceRefusal (verdictOf own) (okOf taken) (now (slots .entry)) (now (values .entry)) room (listsBefore fates whens bys) ⌝ }
 {
     if !lengths_equal(slots, values, fates, whens, bys) {
         return refused(Cause::Lengths);
@@ -186,8 +205,8 @@ fn in_order(
     if !room_ok(room) {
         return refused(Cause::Room);
     }
-    if !own {
-        return refused(Cause::Parameters);
+    if let Checked::Refused(refusal) = own {
+        return Checked::Refused(refusal);
     }
     packets_or_none(slots, values, taken)
 }
@@ -201,7 +220,7 @@ pub fn plain(
     whens: &[u32],
     bys: &[u32],
 ) -> Checked
-    ensures { λ r. ⌜ verdictOf r ≡ plainRefusal (now (slots .entry)) (now (values .entry)) room (listsOf (now (fates .entry)) (now (whens .entry)) (now (bys .entry))) ⌝ }
+    ensures { λ r. ⌜ verdictOf r ≡ plainRefusal (now (slots .entry)) (now (values .entry)) room (listsBefore fates whens bys) ⌝ }
 {
     in_order(
         slots,
@@ -210,7 +229,7 @@ pub fn plain(
         fates,
         whens,
         bys,
-        true,
+        Checked::Accepted,
         Values::InRange,
     )
 }
@@ -224,7 +243,7 @@ pub fn pg(
     whens: &[u32],
     bys: &[u32],
 ) -> Checked
-    ensures { λ r. ⌜ verdictOf r ≡ pgRefusal beta (now (slots .entry)) (now (values .entry)) room (listsOf (now (fates .entry)) (now (whens .entry)) (now (bys .entry))) ⌝ }
+    ensures { λ r. ⌜ verdictOf r ≡ pgRefusal beta (now (slots .entry)) (now (values .entry)) room (listsBefore fates whens bys) ⌝ }
 {
     in_order(
         slots,
@@ -233,7 +252,7 @@ pub fn pg(
         fates,
         whens,
         bys,
-        beta_ok(beta),
+        unless(beta_ok(beta), Cause::Parameters),
         Values::InRange,
     )
 }
@@ -242,14 +261,12 @@ pub fn mf(
     slots: &[u32],
     values: &[u32],
     room: usize,
-    lo: u32,
-    hi: u32,
-    r: usize,
+    marking: Marking,
     fates: &[u32],
     whens: &[u32],
     bys: &[u32],
 ) -> Checked
-    ensures { λ answer. ⌜ verdictOf answer ≡ mfRefusal (markingOf lo hi r) (now (slots .entry)) (now (values .entry)) room (listsOf (now (fates .entry)) (now (whens .entry)) (now (bys .entry))) ⌝ }
+    ensures { λ answer. ⌜ verdictOf answer ≡ mfRefusal marking (now (slots .entry)) (now (values .entry)) room (listsBefore fates whens bys) ⌝ }
 {
     in_order(
         slots,
@@ -258,7 +275,7 @@ pub fn mf(
         fates,
         whens,
         bys,
-        marking_ok(lo, hi, r),
-        Values::LoOrHi(lo, hi),
+        unless(marking_ok(marking), Cause::Parameters),
+        Values::LoOrHi(marking),
     )
 }

@@ -4,16 +4,15 @@ use mathlib.Core.Path.{_≡_, sym, ap, subst, _∙_}
 use borrow.Author.Needs.{needs}
 use Rattle.audit.specs.Sweep.{SweptAs}
 use Rattle.model.specs.Refusals.{plainRefusal, valueOk}
-use Rattle.trace.specs.Checked.{verdictOf, listsOf}
+use Rattle.trace.specs.Checked.{verdictOf}
 use Rattle.audit.proofs.audit.Tie as tie
 use Rattle.audit.specs.declared.Swept.{Swept}
-use Rattle.model.specs.Rules.{Verdict, clear}
+use Rattle.model.specs.Rules.{Verdict, clear, bufferOf}
 use Rattle.audit.proofs.Answer.{countable, totals-are, on-refused, on-faulty, on-passed}
 use Rattle.model.specs.Packets.{arrivals}
 use Rattle.laws.proofs.Accepted.{Accepted, accepted}
 use Rattle.audit.proofs.audit.Statement.{statement}
-use Rattle.audit.proofs.Kept.{bufferOf}
-use Rattle.model.specs.Record.{Lists, rows}
+use Rattle.model.specs.Record.{listsOf, Lists, rows}
 
 abbrev start : tie.After-plain → tie.Start
 start c = c .before .before .before .before .before .before

@@ -18,10 +18,9 @@ use Rattle.audit.proofs.sweep.Tie as tie
 use Rattle.model.specs.Answers.{faultNumber}
 use Rattle.audit.proofs.sweep.Statement.{statement}
 use Rattle.model.specs.Limits.{recordLimits}
-use Rattle.model.specs.Record.{Lists, Row}
+use Rattle.model.specs.Record.{Lists, Row, listsOf}
 use Rattle.audit.proofs.Turn.{Turn}
 use Rattle.model.specs.Rules.{clear, verdictIf}
-use Rattle.trace.specs.Checked.{listsOf}
 use Rattle.faults.specs.declared.Entry.{Entry}
 
 abbrev Inv-loop : tie.InvT-loop

@@ -1,8 +1,7 @@
 -- The test of the window decides what is left.
 use mathlib.Core.Path.{sym, _∙_}
 use borrow.Author.Tests.{not-true, not-false}
-use Rattle.trace.specs.Checked.{markingOf}
-use Rattle.entry.specs.Entry.{lists}
+use Rattle.model.specs.Record.{listsOf}
 use Rattle.steps.proofs.Guarding.{lies-within}
 use Rattle.flush.proofs.Leaving.{ends-kept, none-ends}
 use borrow.Author.Needs.{needs}
@@ -21,7 +20,7 @@ same-length-2 c = search needs
 returns : tie.Need-returns
 returns c =
     let a = c .before .before .before .before .before .before .before .before .before .before .before .args in
-    none-ends (a .room) (markingOf (a .lo) (a .hi) (a .r)) (a .slots .now) (a .from) (a .until) (a .w) (a .numbers .now) (a .values .now) (a .marks .now) (lists (a .fates .now) (a .whens .now) (a .bys .now)) (sym (c .before .lies-within .ensures) ∙ not-true _ (c .if1 .taken))
+    none-ends (a .room) (a .marking) (a .slots .now) (a .from) (a .until) (a .w) (a .numbers .now) (a .values .now) (a .marks .now) (listsOf (a .fates .now) (a .whens .now) (a .bys .now)) (sym (c .before .lies-within .ensures) ∙ not-true _ (c .if1 .taken))
 
 end-slots-requires : tie.Need-end-slots-requires
 end-slots-requires c κs =
@@ -50,8 +49,8 @@ returns-2 : tie.Need-returns-2
 returns-2 c =
     let a = c .before .before .before .before .before .before .before .before .before .before .before .before .before .before .before .before .before .before .before .before .before .before .before .before .before .before .before .before .before .before .args in
     let ended = c .before .before .before .before .before .before .before .before .before .before .before .before .end-slots in
-    ends-kept (a .room) (markingOf (a .lo) (a .hi) (a .r)) (a .slots .now) (a .from) (a .until) (a .w) (a .numbers .now) (a .values .now) (a .marks .now) (lists (a .fates .now) (a .whens .now) (a .bys .now))
-    (ended .result) (ended .last .0) (ended .last .1 .0) (ended .last .1 .1 .1 .0) (lists (ended .last .1 .1 .1 .1 .0) (ended .last .1 .1 .1 .1 .1 .0) (ended .last .1 .1 .1 .1 .1 .1 .0))
+    ends-kept (a .room) (a .marking) (a .slots .now) (a .from) (a .until) (a .w) (a .numbers .now) (a .values .now) (a .marks .now) (listsOf (a .fates .now) (a .whens .now) (a .bys .now))
+    (ended .result) (ended .last .0) (ended .last .1 .0) (ended .last .1 .1 .1 .0) (listsOf (ended .last .1 .1 .1 .1 .0) (ended .last .1 .1 .1 .1 .1 .0) (ended .last .1 .1 .1 .1 .1 .1 .0))
     (sym (c .before .before .before .before .before .before .before .before .before .before .before .before .before .before .before .before .before .before .before .before .lies-within .ensures) ∙ not-false _ (c .before .before .before .before .before .before .before .before .before .before .before .before .before .before .before .before .before .before .before .if1 .left)) (ended .ensures .0) (ended .ensures .1)
 
 pub end-slots-spec : {M : Type 1} → statement M

@@ -1,7 +1,7 @@
 -- The test of the length, and that of the trace, decide which promise is kept.
 use borrow.Author.Needs.{needs}
 use mathlib.Core.Path.{refl}
-use Rattle.trace.specs.Checked.{listsOf}
+use Rattle.model.specs.Record.{listsOf}
 use Rattle.steps.proofs.Guarding.{by-pass, by-fail}
 use Rattle.kept.proofs.Planned.{told, clear-accepted, short-refused, all-accepted, trace-refused}
 use Rattle.kept.proofs.keep.Statement.{statement}

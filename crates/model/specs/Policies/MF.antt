@@ -10,16 +10,11 @@ use lib.Dec.{leb, eqb}
 use Rattle.model.specs.declared.PacketNumber.{PacketNumber}
 use Rattle.model.specs.declared.Slot.{Slot}
 use Rattle.model.specs.declared.Packet.{Packet}
+use Rattle.model.specs.declared.Marking.{Marking}
 use Rattle.model.specs.Packets.{arrivals, placeOf, slotOf, numberOf}
 use Rattle.model.specs.Record.{Entry, flushedAt}
 use Rattle.model.specs.Course.{Step, Policy, byRule, sendOldest, course, first}
 use Rattle.model.specs.Policies.Greedy.{greedyRule}
-
--- MF's parameters
-pub record Marking : Type 0 where
-  pub lo : ℕ
-  pub hi : ℕ
-  pub r : ℕ
 
 -- the held packets, and for each packet of the trace the number of the packet that marked it, 0 for none
 pub record Marked : Type 0 where

@@ -3,16 +3,15 @@ use mathlib.Core.Path.{_≡_, sym, ap, _∙_}
 use borrow.Author.Needs.{needs}
 use native.Mathlib.Omega.{arith}
 use borrow.Author.Tests.{not-true, not-false, le-leb, lt-leb}
-use lib.Dec.{leb}
+use lib.Dec.{leb, eqb}
 use lib.ListN.{length}
 use mathlib.Core.Bool.{true}
-use Rattle.model.specs.declared.Cause.the-variants.{Parameters}
-use Rattle.model.specs.Refusals.{unless, roomOk, traceRefusal}
+use Rattle.model.specs.Refusals.{roomOk, traceRefusal}
 use Rattle.trace.proofs.in_order.Statement.{statement}
 use Rattle.trace.proofs.in_order.Tie as tie
-use Rattle.trace.proofs.Laws.{Order, order, values-length}
-use Rattle.model.specs.Record.{Lists}
-use Rattle.trace.specs.Checked.{verdictOf, listsOf, okOf, lengthsEqual}
+use Rattle.trace.proofs.Laws.{Order, order, values-length, cause-refuses}
+use Rattle.model.specs.Record.{Lists, listsOf}
+use Rattle.trace.specs.Checked.{verdictOf, okOf, lengthsEqual}
 use Rattle.model.specs.Rules.{Verdict}
 use Rattle.model.specs.Limits.{recordLimits}
 
@@ -26,13 +25,13 @@ lists c = let a = start c .args in listsOf (a .fates .now) (a .whens .now) (a .b
 
 -- the order in which the tests answer
 abbrev order-at : tie.After-lengths-equal → Verdict → Type 0
-order-at c = let a = start c .args in Order (a .own) (okOf (a .taken)) (a .slots .now) (a .values .now) (a .room) (lists c)
+order-at c = let a = start c .args in Order (verdictOf (a .own)) (okOf (a .taken)) (a .slots .now) (a .values .now) (a .room) (lists c)
 
 tests : (c : tie.After-lengths-equal) → let a = start c .args in
-    order-at c (traceRefusal (unless (a .own) Parameters) (okOf (a .taken)) (a .slots .now) (a .values .now) (a .room) (lists c))
+    order-at c (traceRefusal (verdictOf (a .own)) (okOf (a .taken)) (a .slots .now) (a .values .now) (a .room) (lists c))
 tests c =
     let a = start c .args in
-    order (a .own) (okOf (a .taken)) (a .slots .now) (a .values .now) (a .room) (lists c)
+    order (verdictOf (a .own)) (okOf (a .taken)) (a .slots .now) (a .values .now) (a .room) (lists c)
 
 -- the lengths are equal
 equal : (c : tie.Else1) → let a = start (c .before) .args in
@@ -80,19 +79,23 @@ returns-3 c =
     ap verdictOf (c .refused3 .ensures)
     ∙ sym (tests (few-then .before .before) .by-room (equal (few-then .before)) (few few-then) (sym (test .ensures) ∙ not-true (test .result) (c .before .if3 .taken)))
 
-refused-requires-4 : tie.Need-refused-requires-4
-refused-requires-4 c κs = search needs
+enum-known-own : tie.Need-enum-known-own
+enum-known-own c = search needs
 
 returns-4 : tie.Need-returns-4
 returns-4 c =
-    let roomy-then = c .before .before in
+    let own = c .before .own .given in
+    let roomy-then = c .before .before .before in
     let few-then = roomy-then .before .before in
-    ap verdictOf (c .refused4 .ensures)
-    ∙ sym (tests (few-then .before .before) .by-own (equal (few-then .before)) (few few-then) (roomy roomy-then) (not-true _ (c .before .if4 .taken)))
+    ap verdictOf (sym (own .1))
+    ∙ sym (tests (few-then .before .before) .by-own (equal (few-then .before)) (few few-then) (roomy roomy-then) (ap (λ (v : Verdict). eqb (v .number) 0) (ap verdictOf (own .1)) ∙ cause-refuses (own .0 .0 .cause)))
+
+enum-told : tie.Need-enum-told
+enum-told c = search needs
 
 packets-or-none-requires : tie.Need-packets-or-none-requires
 packets-or-none-requires c κs =
-    let few-then = c .before .before .before in
+    let few-then = c .before .before .before .before in
     let a = start (few-then .before .before) .args in
     record {
       equal = values-length (a .slots .now) (a .values .now) (lists (few-then .before .before)) (equal (few-then .before));
@@ -101,10 +104,10 @@ packets-or-none-requires c κs =
 
 returns-5 : tie.Need-returns-5
 returns-5 c =
-    let roomy-then = c .before .before in
+    let roomy-then = c .before .before .before in
     let few-then = roomy-then .before .before in
     c .packets-or-none .ensures
-    ∙ sym (tests (few-then .before .before) .by-none (equal (few-then .before)) (few few-then) (roomy roomy-then) (not-false _ (c .before .if4 .left)))
+    ∙ sym (tests (few-then .before .before) .by-none (equal (few-then .before)) (few few-then) (roomy roomy-then) (ap verdictOf (c .before .enum-told .given .1)))
 
 pub in-order-spec : {M : Type 1} → statement M
 in-order-spec =
@@ -118,7 +121,8 @@ in-order-spec =
     room-ok-requires
     refused-requires-3
     returns-3
-    refused-requires-4
+    enum-known-own
     returns-4
+    enum-told
     packets-or-none-requires
     returns-5)

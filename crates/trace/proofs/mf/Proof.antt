@@ -7,12 +7,15 @@ use Rattle.trace.proofs.mf.Statement.{statement}
 marking-ok-requires : tie.Need-marking-ok-requires
 marking-ok-requires c κs = search needs
 
+unless-requires : tie.Need-unless-requires
+unless-requires c κs = search needs
+
 in-order-requires : tie.Need-in-order-requires
 in-order-requires c κs = search needs
 
 returns : tie.Need-returns
 unfolding mfRefusal
-returns c = rw (c .before .marking-ok .ensures) at (c .in-order .ensures)
+returns c = rw (c .before .unless .ensures, c .before .before .marking-ok .ensures) at (c .in-order .ensures)
 
 pub mf-spec : {M : Type 1} → statement M
-mf-spec = tie.close (tie.spec marking-ok-requires in-order-requires returns)
+mf-spec = tie.close (tie.spec marking-ok-requires unless-requires in-order-requires returns)

@@ -7,12 +7,15 @@ use Rattle.trace.proofs.pg.Statement.{statement}
 beta-ok-requires : tie.Need-beta-ok-requires
 beta-ok-requires c κs = search needs
 
+unless-requires : tie.Need-unless-requires
+unless-requires c κs = search needs
+
 in-order-requires : tie.Need-in-order-requires
 in-order-requires c κs = search needs
 
 returns : tie.Need-returns
 unfolding pgRefusal
-returns c = rw (c .before .beta-ok .ensures) at (c .in-order .ensures)
+returns c = rw (c .before .unless .ensures, c .before .before .beta-ok .ensures) at (c .in-order .ensures)
 
 pub pg-spec : {M : Type 1} → statement M
-pg-spec = tie.close (tie.spec beta-ok-requires in-order-requires returns)
+pg-spec = tie.close (tie.spec beta-ok-requires unless-requires in-order-requires returns)

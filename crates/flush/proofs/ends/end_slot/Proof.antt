@@ -1,6 +1,5 @@
 -- The marks, the flush and the sending, one after the other, are the policy's end of a slot.
-use Rattle.trace.specs.Checked.{markingOf}
-use Rattle.entry.specs.Entry.{lists}
+use Rattle.model.specs.Record.{listsOf}
 use Rattle.steps.specs.Window.{windowOf}
 use Rattle.steps.proofs.Guarding.{within-lies}
 use Rattle.steps.specs.Lent.{lent}
@@ -50,11 +49,11 @@ returns c =
     let head = c .before .before .before .before .before .before .before .before .before .before .before .before .before .before .before .before .before .before .before .before .before .before .before .before .before .before .before .before .before .head-mark in
     let queue = windowOf (a .w) (a .numbers .now) (a .values .now) in
     let by-slot = marked .ensures .passed (within-lies (a .w) (a .numbers .now) (a .values .now) (start .pre)) in
-    let between = lists (flushed .last .1 .1 .1 .0) (flushed .last .1 .1 .1 .1 .0) (flushed .last .1 .1 .1 .1 .1 .0) in
-    let after = lists (sent .last .1 .1 .0) (sent .last .1 .1 .1 .0) (sent .last .1 .1 .1 .1 .0) in (
-      finished (a .room) (markingOf (a .lo) (a .hi) (a .r)) (a .slots .now) (a .slot) queue (a .marks .now) (marked .last .1 .1 .1 .0) by-slot (head .result) (head .ensures)
-          (lists (a .fates .now) (a .whens .now) (a .bys .now)) between after (flushed .result) (sent .result) (flushed .last .0) (flushed .last .1 .0) (flushed .ensures .0) (sent .ensures .0),
-      end-left (a .room) (markingOf (a .lo) (a .hi) (a .r)) (a .slots .now) (a .slot) queue (a .marks .now) (marked .last .1 .1 .1 .0) by-slot (head .result) (head .ensures)
+    let between = listsOf (flushed .last .1 .1 .1 .0) (flushed .last .1 .1 .1 .1 .0) (flushed .last .1 .1 .1 .1 .1 .0) in
+    let after = listsOf (sent .last .1 .1 .0) (sent .last .1 .1 .1 .0) (sent .last .1 .1 .1 .1 .0) in (
+      finished (a .room) (a .marking) (a .slots .now) (a .slot) queue (a .marks .now) (marked .last .1 .1 .1 .0) by-slot (head .result) (head .ensures)
+          (listsOf (a .fates .now) (a .whens .now) (a .bys .now)) between after (flushed .result) (sent .result) (flushed .last .0) (flushed .last .1 .0) (flushed .ensures .0) (sent .ensures .0),
+      end-left (a .room) (a .marking) (a .slots .now) (a .slot) queue (a .marks .now) (marked .last .1 .1 .1 .0) by-slot (head .result) (head .ensures)
           (lent (a .w) (a .numbers .now) (a .values .now)) (flushed .result) (sent .result) (flushed .last .0) (flushed .last .1 .0) (flushed .ensures .1)
           between after (flushed .ensures .0 .queue) (sent .ensures .0) (sent .ensures .1),
     )

@@ -5,8 +5,7 @@ use native.Mathlib.Omega.{arith}
 use lib.ListN.{length}
 use borrow.Author.Tests.{ltb-true, ltb-false}
 use Rattle.model.specs.Policies.MF.{Marked, mfPolicy}
-use Rattle.trace.specs.Checked.{markingOf}
-use Rattle.entry.specs.Entry.{lists}
+use Rattle.model.specs.Record.{listsOf}
 use Rattle.steps.specs.Window.{windowOf}
 use Rattle.marks.specs.Mark.{beside}
 use Rattle.steps.specs.Lent.{Lent, lent}
@@ -20,25 +19,25 @@ use Rattle.flush.proofs.ends.end_slots.Statement.{statement}
 use Rattle.flush.proofs.ends.end_slots.Tie as tie
 
 abbrev Inv-loop : tie.InvT-loop
-Inv-loop numbers₀ values₀ slots marks₀ fates₀ whens₀ bys₀ room lo hi r until head₀ tail₀ slot₀ numbers values marks fates whens bys head tail slot =
+Inv-loop numbers₀ values₀ slots marks₀ fates₀ whens₀ bys₀ room marking until head₀ tail₀ slot₀ numbers values marks fates whens bys head tail slot =
     (length numbers ≡ length numbers₀)
     × (length values ≡ length values₀)
     × (length marks ≡ length marks₀)
     × (length fates ≡ length fates₀)
     × (length whens ≡ length whens₀)
     × (length bys ≡ length bys₀)
-    × Left room (markingOf lo hi r) slots (until .0) slot₀ (beside (windowOf (window head₀ tail₀) numbers₀ values₀) marks₀) (lists fates₀ whens₀ bys₀)
-    slot head tail numbers values marks (lists fates whens bys)
-    × (ends room (markingOf lo hi r) slots (until .0) slot (beside (windowOf (window head tail) numbers values) marks) (lent (window head tail) numbers values)
-    ≡ ends room (markingOf lo hi r) slots (until .0) slot₀ (beside (windowOf (window head₀ tail₀) numbers₀ values₀) marks₀) (lent (window head₀ tail₀) numbers₀ values₀))
+    × Left room marking slots (until .0) slot₀ (beside (windowOf (window head₀ tail₀) numbers₀ values₀) marks₀) (listsOf fates₀ whens₀ bys₀)
+    slot head tail numbers values marks (listsOf fates whens bys)
+    × (ends room marking slots (until .0) slot (beside (windowOf (window head tail) numbers values) marks) (lent (window head tail) numbers values)
+    ≡ ends room marking slots (until .0) slot₀ (beside (windowOf (window head₀ tail₀) numbers₀ values₀) marks₀) (lent (window head₀ tail₀) numbers₀ values₀))
 
 abbrev μ-loop : tie.MeasureT-loop
-μ-loop numbers₀ values₀ slots marks₀ fates₀ whens₀ bys₀ room lo hi r until head₀ tail₀ slot₀ numbers values marks fates whens bys head tail slot = until .0 - slot
+μ-loop numbers₀ values₀ slots marks₀ fates₀ whens₀ bys₀ room marking until head₀ tail₀ slot₀ numbers values marks fates whens bys head tail slot = until .0 - slot
 
 loop-holds : tie.Need-loop-holds Inv-loop μ-loop
 loop-holds c =
     let a = c .before .before .before .before .before .before .before .args in
-    (refl, refl, refl, refl, refl, refl, record { within = c .before .before .before .before .before .before .before .pre; ends = ending-all (mfPolicy (a .room) (markingOf (a .lo) (a .hi) (a .r)) (a .slots .now)) (a .until .0) (a .from .0) (beside (windowOf (a .w) (a .numbers .now) (a .values .now)) (a .marks .now)) (lists (a .fates .now) (a .whens .now) (a .bys .now)) }, refl)
+    (refl, refl, refl, refl, refl, refl, record { within = c .before .before .before .before .before .before .before .pre; ends = ending-all (mfPolicy (a .room) (a .marking) (a .slots .now)) (a .until .0) (a .from .0) (beside (windowOf (a .w) (a .numbers .now) (a .values .now)) (a .marks .now)) (listsOf (a .fates .now) (a .whens .now) (a .bys .now)) }, refl)
 
 end-slot-requires : tie.Need-end-slot-requires Inv-loop μ-loop
 end-slot-requires c κs = search needs
@@ -58,8 +57,8 @@ loop-again c =
     let some = ltb-true (loop .head) (loop .tail) (c .before .before .before .before .before .before .before .before .before .before .before .before .before .before .before .before .before .before .before .if2 .taken) in
     let held = window-length (window (loop .head) (loop .tail)) (loop .numbers) (loop .values) (loop .inv .6 .within) in
     let went =
-    ap₂ (λ (s : Marked) (l : Lent). ends (a .room) (markingOf (a .lo) (a .hi) (a .r)) (a .slots .now) (a .until .0) (loop .slot + 1) s l) (end .ensures .0 .state) (end .ensures .1)
-    ∙ sym (ends-turn (a .room) (markingOf (a .lo) (a .hi) (a .r)) (a .slots .now) (a .until .0) (loop .slot) state (lent (window (loop .head) (loop .tail)) (loop .numbers) (loop .values)) (c .before .before .before .before .before .before .before .before .before .before .before .before .before .before .before .before .before .before .before .before .if1 .taken) (omega (arith, held, some)))
+    ap₂ (λ (s : Marked) (l : Lent). ends (a .room) (a .marking) (a .slots .now) (a .until .0) (loop .slot + 1) s l) (end .ensures .0 .state) (end .ensures .1)
+    ∙ sym (ends-turn (a .room) (a .marking) (a .slots .now) (a .until .0) (loop .slot) state (lent (window (loop .head) (loop .tail)) (loop .numbers) (loop .values)) (c .before .before .before .before .before .before .before .before .before .before .before .before .before .before .before .before .before .before .before .before .if1 .taken) (omega (arith, held, some)))
     ∙ loop .inv .7
     in (
       end .kept .0 ∙ loop .inv .0,
@@ -68,9 +67,9 @@ loop-again c =
       end .kept .1 .1 .1 .1 .0 ∙ loop .inv .3,
       end .kept .1 .1 .1 .1 .1 .0 ∙ loop .inv .4,
       end .kept .1 .1 .1 .1 .1 .1 .0 ∙ loop .inv .5,
-      left-turn (a .room) (markingOf (a .lo) (a .hi) (a .r)) (a .slots .now) (a .until .0) (a .from .0) (beside (windowOf (a .w) (a .numbers .now) (a .values .now)) (a .marks .now)) (lists (a .fates .now) (a .whens .now) (a .bys .now))
-          (loop .slot) (loop .head) (loop .tail) (loop .numbers) (loop .values) (loop .marks) (lists (loop .fates) (loop .whens) (loop .bys)) (loop .inv .6) (c .before .before .before .before .before .before .before .before .before .before .before .before .before .before .before .before .before .before .before .before .if1 .taken) some
-          (end .result) (end .last .0) (end .last .1 .0) (end .last .1 .1 .1 .0) (lists (end .last .1 .1 .1 .1 .0) (end .last .1 .1 .1 .1 .1 .0) (end .last .1 .1 .1 .1 .1 .1 .0)) (end .ensures .0),
+      left-turn (a .room) (a .marking) (a .slots .now) (a .until .0) (a .from .0) (beside (windowOf (a .w) (a .numbers .now) (a .values .now)) (a .marks .now)) (listsOf (a .fates .now) (a .whens .now) (a .bys .now))
+          (loop .slot) (loop .head) (loop .tail) (loop .numbers) (loop .values) (loop .marks) (listsOf (loop .fates) (loop .whens) (loop .bys)) (loop .inv .6) (c .before .before .before .before .before .before .before .before .before .before .before .before .before .before .before .before .before .before .before .before .if1 .taken) some
+          (end .result) (end .last .0) (end .last .1 .0) (end .last .1 .1 .1 .0) (listsOf (end .last .1 .1 .1 .1 .0) (end .last .1 .1 .1 .1 .1 .0) (end .last .1 .1 .1 .1 .1 .1 .0)) (end .ensures .0),
       went,
     )
 
@@ -96,9 +95,9 @@ returns : tie.Need-returns Inv-loop μ-loop
 returns c =
     let a = c .before .before .before .before .before .before .before .before .before .before .before .args in
     let loop = c .before .before .before .loop in (
-      left-idle (a .room) (markingOf (a .lo) (a .hi) (a .r)) (a .slots .now) (a .until .0) (a .from .0) (beside (windowOf (a .w) (a .numbers .now) (a .values .now)) (a .marks .now)) (lists (a .fates .now) (a .whens .now) (a .bys .now))
-          (loop .slot) (loop .head) (loop .tail) (loop .numbers) (loop .values) (loop .marks) (lists (loop .fates) (loop .whens) (loop .bys)) (loop .inv .6) (ltb-false (loop .head) (loop .tail) (c .if2 .left)),
-      sym (ends-idle (a .room) (markingOf (a .lo) (a .hi) (a .r)) (a .slots .now) (a .until .0) (loop .slot) (beside (windowOf (window (loop .head) (loop .tail)) (loop .numbers) (loop .values)) (loop .marks)) (lent (window (loop .head) (loop .tail)) (loop .numbers) (loop .values))
+      left-idle (a .room) (a .marking) (a .slots .now) (a .until .0) (a .from .0) (beside (windowOf (a .w) (a .numbers .now) (a .values .now)) (a .marks .now)) (listsOf (a .fates .now) (a .whens .now) (a .bys .now))
+          (loop .slot) (loop .head) (loop .tail) (loop .numbers) (loop .values) (loop .marks) (listsOf (loop .fates) (loop .whens) (loop .bys)) (loop .inv .6) (ltb-false (loop .head) (loop .tail) (c .if2 .left)),
+      sym (ends-idle (a .room) (a .marking) (a .slots .now) (a .until .0) (loop .slot) (beside (windowOf (window (loop .head) (loop .tail)) (loop .numbers) (loop .values)) (loop .marks)) (lent (window (loop .head) (loop .tail)) (loop .numbers) (loop .values))
           (omega (arith, window-length (window (loop .head) (loop .tail)) (loop .numbers) (loop .values) (loop .inv .6 .within), ltb-false (loop .head) (loop .tail) (c .if2 .left)))) ∙ loop .inv .7,
     )
 
@@ -124,9 +123,9 @@ returns-2 : tie.Need-returns-2 Inv-loop μ-loop
 returns-2 c =
     let a = c .before .before .before .before .before .before .before .before .before .before .args in
     let loop = c .before .before .loop in (
-      left-past (a .room) (markingOf (a .lo) (a .hi) (a .r)) (a .slots .now) (a .until .0) (a .from .0) (beside (windowOf (a .w) (a .numbers .now) (a .values .now)) (a .marks .now)) (lists (a .fates .now) (a .whens .now) (a .bys .now))
-          (loop .slot) (loop .head) (loop .tail) (loop .numbers) (loop .values) (loop .marks) (lists (loop .fates) (loop .whens) (loop .bys)) (loop .inv .6) (c .if1 .left),
-      sym (ends-past (a .room) (markingOf (a .lo) (a .hi) (a .r)) (a .slots .now) (a .until .0) (loop .slot) (beside (windowOf (window (loop .head) (loop .tail)) (loop .numbers) (loop .values)) (loop .marks)) (lent (window (loop .head) (loop .tail)) (loop .numbers) (loop .values)) (c .if1 .left)) ∙ loop .inv .7,
+      left-past (a .room) (a .marking) (a .slots .now) (a .until .0) (a .from .0) (beside (windowOf (a .w) (a .numbers .now) (a .values .now)) (a .marks .now)) (listsOf (a .fates .now) (a .whens .now) (a .bys .now))
+          (loop .slot) (loop .head) (loop .tail) (loop .numbers) (loop .values) (loop .marks) (listsOf (loop .fates) (loop .whens) (loop .bys)) (loop .inv .6) (c .if1 .left),
+      sym (ends-past (a .room) (a .marking) (a .slots .now) (a .until .0) (loop .slot) (beside (windowOf (window (loop .head) (loop .tail)) (loop .numbers) (loop .values)) (loop .marks)) (lent (window (loop .head) (loop .tail)) (loop .numbers) (loop .values)) (c .if1 .left)) ∙ loop .inv .7,
     )
 
 pub end-slots-spec : {M : Type 1} → statement M

@@ -2,7 +2,7 @@
 use mathlib.Core.Path.{refl, sym, _∙_}
 use mathlib.Core.Logic.{⊎-elim}
 use native.Mathlib.Omega.{arith}
-use Rattle.entry.specs.Entry.{lists}
+use Rattle.model.specs.Record.{listsOf}
 use Rattle.flush.proofs.Finishing.{sent-oldest, sent-none}
 use Rattle.steps.proofs.Guarding.{within-lies}
 use borrow.Author.Needs.{needs}
@@ -20,7 +20,7 @@ returns c =
     let a = c .before .before .before .before .before .before .before .args in
     let k = c .match .keys2 in
     let told = c .before .oldest .ensures .passed (within-lies (a .w) (a .numbers .now) (a .values .now) (c .before .before .before .before .before .before .before .pre)) .is in (
-      sent-none (a .slot) (a .w .head) (a .w .tail) (a .numbers .now) (a .values .now) (c .before .before .before .before .before .before .before .pre) (lists (a .fates .now) (a .whens .now) (a .bys .now))
+      sent-none (a .slot) (a .w .head) (a .w .tail) (a .numbers .now) (a .values .now) (c .before .before .before .before .before .before .before .pre) (listsOf (a .fates .now) (a .whens .now) (a .bys .now))
           (λ p e. ⊎-elim (λ t. omega arith) (λ t. omega arith) (rw (told ∙ e) at k)),
       refl,
     )
@@ -43,7 +43,7 @@ same-length-3 c = search needs
 returns-2 : tie.Need-returns-2
 returns-2 c =
     let a = c .before .before .before .before .before .before .before .before .before .before .before .before .before .before .before .before .before .before .before .args in (
-      sent-oldest (a .slot) (a .w .head) (a .w .tail) (a .numbers .now) (a .values .now) (c .before .before .before .before .before .before .before .before .before .before .before .before .before .before .before .before .before .before .before .pre) (lists (a .fates .now) (a .whens .now) (a .bys .now))
+      sent-oldest (a .slot) (a .w .head) (a .w .tail) (a .numbers .now) (a .values .now) (c .before .before .before .before .before .before .before .before .before .before .before .before .before .before .before .before .before .before .before .pre) (listsOf (a .fates .now) (a .whens .now) (a .bys .now))
           (c .before .before .before .before .before .before .before .before .before .before .before .p .given .0 .0) (sym (c .before .before .before .before .before .before .before .before .before .before .before .before .before .oldest .ensures .passed (within-lies (a .w) (a .numbers .now) (a .values .now) (c .before .before .before .before .before .before .before .before .before .before .before .before .before .before .before .before .before .before .before .pre)) .is) ∙ c .before .before .before .before .before .before .before .before .before .before .before .p .given .1) _ (c .before .before .before .before .before .before .enter .ensures) .1,
       refl,
     )

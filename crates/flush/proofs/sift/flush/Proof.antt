@@ -1,5 +1,5 @@
 -- Under a head with no mark nothing goes.
-use Rattle.entry.specs.Entry.{lists}
+use Rattle.model.specs.Record.{listsOf}
 use Rattle.flush.proofs.Flushing.{nothing-goes}
 use borrow.Author.Needs.{needs}
 use Rattle.flush.proofs.sift.flush.Statement.{statement}
@@ -8,7 +8,7 @@ use Rattle.flush.proofs.sift.flush.Tie as tie
 returns : tie.Need-returns
 returns c =
     let a = c .before .before .before .before .before .before .before .before .args in
-    nothing-goes (a .m) (a .marks .now) (a .slot) (a .w) (a .numbers .now) (a .values .now) (lists (a .fates .now) (a .whens .now) (a .bys .now)) (c .before .before .before .before .before .before .before .before .pre) (c .if1 .taken)
+    nothing-goes (a .m) (a .marks .now) (a .slot) (a .w) (a .numbers .now) (a .values .now) (listsOf (a .fates .now) (a .whens .now) (a .bys .now)) (c .before .before .before .before .before .before .before .before .pre) (c .if1 .taken)
 
 sift-requires : tie.Need-sift-requires
 sift-requires c κs = search needs

@@ -6,8 +6,8 @@ use lib.ListN.{length, getD}
 use lib.Dec.{eqb, leb}
 use Rattle.model.specs.declared.PacketNumber.{PacketNumber}
 use Rattle.model.specs.declared.Fate.the-variants.{Flushed}
-use Rattle.model.specs.Record.{enter}
-use Rattle.entry.specs.Entry.{lists, entry}
+use Rattle.model.specs.Record.{enter, listsOf}
+use Rattle.entry.specs.Entry.{entry}
 use Rattle.flush.proofs.Flushing.{Sifting, sifting-all, sifting-none, sifting-goes, sifting-stays}
 use borrow.Author.Needs.{needs}
 use Rattle.flush.proofs.sift.sift.Statement.{statement}
@@ -18,7 +18,7 @@ Inv-loop numbers₀ values₀ marks fates₀ whens₀ bys₀ m slot head tail fr
     (length fates ≡ length fates₀)
     × (length whens ≡ length whens₀)
     × (length bys ≡ length bys₀)
-    × Sifting m marks slot head tail numbers₀ values₀ (lists fates₀ whens₀ bys₀) numbers values from to (lists fates whens bys)
+    × Sifting m marks slot head tail numbers₀ values₀ (listsOf fates₀ whens₀ bys₀) numbers values from to (listsOf fates whens bys)
 
 abbrev μ-loop : tie.MeasureT-loop
 μ-loop numbers₀ values₀ marks fates₀ whens₀ bys₀ m slot head tail from₀ to₀ numbers values fates whens bys from to = tail - from
@@ -26,7 +26,7 @@ abbrev μ-loop : tie.MeasureT-loop
 loop-holds : tie.Need-loop-holds Inv-loop μ-loop
 loop-holds c =
     let a = c .before .before .before .before .before .before .args in
-    (refl, refl, refl, sifting-all (a .m) (a .marks .now) (a .slot) (a .w .head) (a .w .tail) (a .numbers .now) (a .values .now) (lists (a .fates .now) (a .whens .now) (a .bys .now)) (c .before .before .before .before .before .before .pre))
+    (refl, refl, refl, sifting-all (a .m) (a .marks .now) (a .slot) (a .w .head) (a .w .tail) (a .numbers .now) (a .values .now) (listsOf (a .fates .now) (a .whens .now) (a .bys .now)) (c .before .before .before .before .before .before .pre))
 
 mul-t17 : tie.Need-mul-t17 Inv-loop μ-loop
 mul-t17 c = search needs
@@ -65,8 +65,8 @@ loop-again c =
       entered .kept .0 ∙ loop .inv .0,
       entered .kept .1 .0 ∙ loop .inv .1,
       entered .kept .1 .1 .0 ∙ loop .inv .2,
-      sifting-goes (a .m) (a .marks .now) (a .slot) (a .w .head) (a .w .tail) (a .numbers .now) (a .values .now) (lists (a .fates .now) (a .whens .now) (a .bys .now)) (loop .numbers) (loop .values) (loop .from) (loop .to) (lists (loop .fates) (loop .whens) (loop .bys)) (loop .inv .3) (c .before .before .before .before .before .before .before .before .before .before .before .before .before .before .before .loop-test .taken) goes _
-          (entered .ensures ∙ ap (λ (k : PacketNumber). enter (entry (record { 0 = getD (loop .numbers) (loop .from) 0 }) Flushed (a .slot) k) (lists (loop .fates) (loop .whens) (loop .bys))) (mark .ensures)),
+      sifting-goes (a .m) (a .marks .now) (a .slot) (a .w .head) (a .w .tail) (a .numbers .now) (a .values .now) (listsOf (a .fates .now) (a .whens .now) (a .bys .now)) (loop .numbers) (loop .values) (loop .from) (loop .to) (listsOf (loop .fates) (loop .whens) (loop .bys)) (loop .inv .3) (c .before .before .before .before .before .before .before .before .before .before .before .before .before .before .before .loop-test .taken) goes _
+          (entered .ensures ∙ ap (λ (k : PacketNumber). enter (entry (record { 0 = getD (loop .numbers) (loop .from) 0 }) Flushed (a .slot) k) (listsOf (loop .fates) (loop .whens) (loop .bys))) (mark .ensures)),
     )
 
 mul-numbers : tie.Need-mul-numbers Inv-loop μ-loop
@@ -92,7 +92,7 @@ loop-again-2 c =
     let a = c .before .before .before .before .before .before .before .before .before .before .before .before .before .args in
     let loop = c .before .before .before .before .before .before .loop in
     let stays = sym (ap (λ (k : PacketNumber). not (eqb (k .0) 0) && leb (k .0) (a .m .0)) (c .before .before .mark-of .ensures)) ∙ sym (c .before .goes-with .ensures) ∙ c .if1 .left in
-    (loop .inv .0, loop .inv .1, loop .inv .2, sifting-stays (a .m) (a .marks .now) (a .slot) (a .w .head) (a .w .tail) (a .numbers .now) (a .values .now) (lists (a .fates .now) (a .whens .now) (a .bys .now)) (loop .numbers) (loop .values) (loop .from) (loop .to) (lists (loop .fates) (loop .whens) (loop .bys)) (loop .inv .3) (c .before .before .before .before .before .loop-test .taken) stays)
+    (loop .inv .0, loop .inv .1, loop .inv .2, sifting-stays (a .m) (a .marks .now) (a .slot) (a .w .head) (a .w .tail) (a .numbers .now) (a .values .now) (listsOf (a .fates .now) (a .whens .now) (a .bys .now)) (loop .numbers) (loop .values) (loop .from) (loop .to) (listsOf (loop .fates) (loop .whens) (loop .bys)) (loop .inv .3) (c .before .before .before .before .before .loop-test .taken) stays)
 
 same-length : tie.Need-same-length Inv-loop μ-loop
 same-length c = search needs
@@ -113,7 +113,7 @@ returns : tie.Need-returns Inv-loop μ-loop
 returns c =
     let a = c .before .before .before .before .before .before .before .before .args in
     let loop = c .before .loop in
-    sifting-none (a .m) (a .marks .now) (a .slot) (a .w .head) (a .w .tail) (a .numbers .now) (a .values .now) (lists (a .fates .now) (a .whens .now) (a .bys .now)) (loop .numbers) (loop .values) (loop .from) (loop .to) (lists (loop .fates) (loop .whens) (loop .bys)) (loop .inv .3) (c .loop-test .left)
+    sifting-none (a .m) (a .marks .now) (a .slot) (a .w .head) (a .w .tail) (a .numbers .now) (a .values .now) (listsOf (a .fates .now) (a .whens .now) (a .bys .now)) (loop .numbers) (loop .values) (loop .from) (loop .to) (listsOf (loop .fates) (loop .whens) (loop .bys)) (loop .inv .3) (c .loop-test .left)
 
 pub sift-spec : {M : Type 1} → statement M
 sift-spec =

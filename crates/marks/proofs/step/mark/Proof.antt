@@ -6,7 +6,6 @@ use native.Mathlib.Omega.{arith}
 use lib.ListN.{length}
 use Rattle.model.specs.declared.Packet.{Packet}
 use Rattle.model.specs.Policies.MF.{markFrom}
-use Rattle.trace.specs.Checked.{markingOf}
 use Rattle.steps.specs.Window.{Within}
 use Rattle.steps.proofs.Windows.{window}
 use Rattle.marks.proofs.Marking.{window-take, Passing, passing-all, passing-none, passing-turn}
@@ -15,11 +14,11 @@ use Rattle.marks.proofs.step.mark.Statement.{statement}
 use Rattle.marks.proofs.step.mark.Tie as tie
 
 abbrev Inv-loop : tie.InvT-loop
-Inv-loop numbers values slots marks₀ room lo hi r slot head n i₀ marks i =
-    (head + n ≤ length values) × Passing numbers values slots head n (markingOf lo hi r) slot marks₀ i marks
+Inv-loop numbers values slots marks₀ room marking slot head n i₀ marks i =
+    (head + n ≤ length values) × Passing numbers values slots head n marking slot marks₀ i marks
 
 abbrev μ-loop : tie.MeasureT-loop
-μ-loop numbers values slots marks₀ room lo hi r slot head n i₀ marks i = n - i
+μ-loop numbers values slots marks₀ room marking slot head n i₀ marks i = n - i
 
 positions-requires : tie.Need-positions-requires Inv-loop μ-loop
 positions-requires c κs = search needs
@@ -27,7 +26,7 @@ positions-requires c κs = search needs
 loop-holds : tie.Need-loop-holds Inv-loop μ-loop
 loop-holds c =
     let a = c .before .before .before .before .before .args in
-    (omega arith, passing-all (a .numbers .now) (a .values .now) (a .slots .now) (a .w .head) (c .positions .result) (markingOf (a .lo) (a .hi) (a .r)) (a .slot) (a .marks .now))
+    (omega arith, passing-all (a .numbers .now) (a .values .now) (a .slots .now) (a .w .head) (c .positions .result) (a .marking) (a .slot) (a .marks .now))
 
 mark-by-requires : tie.Need-mark-by-requires Inv-loop μ-loop
 mark-by-requires c κs = search needs
@@ -45,7 +44,7 @@ loop-again c =
     let n = c .before .before .before .before .before .before .positions .result in
     let W : Within (window (a .w .head) (a .w .head + n)) (a .numbers .now) (a .values .now) = record { ordered = omega arith; inside = loop .inv .0; same = c .before .before .before .before .before .before .before .before .before .before .before .pre .same } in (
       loop .inv .0,
-      passing-turn (a .numbers .now) (a .values .now) (a .slots .now) (a .w .head) n (markingOf (a .lo) (a .hi) (a .r)) (a .slot) (a .marks .now)
+      passing-turn (a .numbers .now) (a .values .now) (a .slots .now) (a .w .head) n (a .marking) (a .slot) (a .marks .now)
           W (loop .i) (loop .marks) (loop .inv .1) (c .before .before .before .before .loop-test .taken) (c .before .before .mark-by .last .1 .1 .1 .0) (c .before .before .mark-by .ensures) (c .before .before .mark-by .kept .1 .1 .1 .0),
     )
 
@@ -58,8 +57,8 @@ returns c =
     let loop = c .before .loop in
     let n = c .before .before .positions .result in
     let W : Within (window (a .w .head) (a .w .head + n)) (a .numbers .now) (a .values .now) = record { ordered = omega arith; inside = loop .inv .0; same = c .before .before .before .before .before .before .before .pre .same } in
-    passing-none (a .numbers .now) (a .values .now) (a .slots .now) (a .w .head) n (markingOf (a .lo) (a .hi) (a .r)) (a .slot) (a .marks .now) W (loop .i) (loop .marks) (loop .inv .1) (c .loop-test .left)
-    ∙ ap (λ (queue : List Packet). markFrom (markingOf (a .lo) (a .hi) (a .r)) (a .slots .now) (a .slot) [] queue (a .marks .now))
+    passing-none (a .numbers .now) (a .values .now) (a .slots .now) (a .w .head) n (a .marking) (a .slot) (a .marks .now) W (loop .i) (loop .marks) (loop .inv .1) (c .loop-test .left)
+    ∙ ap (λ (queue : List Packet). markFrom (a .marking) (a .slots .now) (a .slot) [] queue (a .marks .now))
     (window-take (a .w) (a .numbers .now) (a .values .now) (c .before .before .before .before .before .before .before .pre) n (a .room - 1) (c .before .before .positions .ensures))
 
 pub mark-spec : {M : Type 1} → statement M

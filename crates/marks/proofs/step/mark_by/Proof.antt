@@ -8,17 +8,17 @@ use Rattle.marks.proofs.step.mark_by.Tie as tie
 add-k : tie.Need-add-k
 add-k c = search needs
 
-mul-t13 : tie.Need-mul-t13
-mul-t13 c = search needs
+mul-number : tie.Need-mul-number
+mul-number c = search needs
 
-shared-slice-read-t15 : tie.Need-shared-slice-read-t15
-shared-slice-read-t15 c = search needs
+shared-slice-read-number : tie.Need-shared-slice-read-number
+shared-slice-read-number c = search needs
 
-mul-t17 : tie.Need-mul-t17
-mul-t17 c = search needs
+mul-value : tie.Need-mul-value
+mul-value c = search needs
 
-shared-slice-read-t19 : tie.Need-shared-slice-read-t19
-shared-slice-read-t19 c = search needs
+shared-slice-read-value : tie.Need-shared-slice-read-value
+shared-slice-read-value c = search needs
 
 gives-marks-requires : tie.Need-gives-marks-requires
 gives-marks-requires c κs = search needs
@@ -40,10 +40,10 @@ mark-by-spec =
     tie.close
     (tie.spec
     add-k
-    mul-t13
-    shared-slice-read-t15
-    mul-t17
-    shared-slice-read-t19
+    mul-number
+    shared-slice-read-number
+    mul-value
+    shared-slice-read-value
     gives-marks-requires
     mark-down-requires
     same-length

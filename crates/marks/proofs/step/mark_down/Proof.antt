@@ -11,10 +11,10 @@ use Rattle.marks.proofs.step.mark_down.Statement.{statement}
 use Rattle.marks.proofs.step.mark_down.Tie as tie
 
 abbrev Inv-loop : tie.InvT-loop
-Inv-loop numbers values marks₀ head n lo r marking i₀ left₀ marks i left = Down numbers values head n lo r marking marks₀ i left marks
+Inv-loop numbers values marks₀ head n lo r by i₀ left₀ marks i left = Down numbers values head n lo r by marks₀ i left marks
 
 abbrev μ-loop : tie.MeasureT-loop
-μ-loop numbers values marks₀ head n lo r marking i₀ left₀ marks i left = i
+μ-loop numbers values marks₀ head n lo r by i₀ left₀ marks i left = i
 
 loop-holds : tie.Need-loop-holds Inv-loop μ-loop
 loop-holds c = down-all _ _ _ _ _ _ _ _
@@ -59,9 +59,9 @@ loop-again : tie.Need-loop-again Inv-loop μ-loop
 loop-again c =
     let loop = c .before .before .before .before .before .before .before .before .before .before .before .before .loop in
     let a = c .before .before .before .before .before .before .before .before .before .before .before .before .before .before .before .before .args in
-    down-marked (a .numbers .now) (a .values .now) (a .head) (a .n) (a .lo) (a .r) (a .marking) (a .marks .now) (loop .i) (loop .left) (loop .i - 1) (loop .left - 1) (loop .marks)
+    down-marked (a .numbers .now) (a .values .now) (a .head) (a .n) (a .lo) (a .r) (a .by) (a .marks .now) (loop .i) (loop .left) (loop .i - 1) (loop .left - 1) (loop .marks)
     (loop .inv) (omega arith) (omega (arith, ltb-true 0 (loop .left) (c .before .before .before .before .before .before .before .before .before .before .if1 .taken))) (sym (c .before .before .before .before .before .before .takes-mark .ensures) ∙ c .before .before .before .before .before .if2 .taken) (c .before .before .put .last .0)
-    (c .before .before .put .ensures ∙ ap (λ (place : ℕ). set (loop .marks) place (a .marking .0)) (c .before .before .before .place-of .ensures)) (c .before .before .put .kept .0)
+    (c .before .before .put .ensures ∙ ap (λ (place : ℕ). set (loop .marks) place (a .by .0)) (c .before .before .before .place-of .ensures)) (c .before .before .put .kept .0)
 
 loop-less-2 : tie.Need-loop-less-2 Inv-loop μ-loop
 loop-less-2 c = search needs
@@ -70,7 +70,7 @@ loop-again-2 : tie.Need-loop-again-2 Inv-loop μ-loop
 loop-again-2 c =
     let loop = c .before .before .before .before .before .before .before .loop in
     let a = c .before .before .before .before .before .before .before .before .before .before .before .args in
-    down-passed (a .numbers .now) (a .values .now) (a .head) (a .n) (a .lo) (a .r) (a .marking) (a .marks .now) (loop .i) (loop .left) (loop .i - 1) (loop .left - 1) (loop .marks)
+    down-passed (a .numbers .now) (a .values .now) (a .head) (a .n) (a .lo) (a .r) (a .by) (a .marks .now) (loop .i) (loop .left) (loop .i - 1) (loop .left - 1) (loop .marks)
     (loop .inv) (omega arith) (omega (arith, ltb-true 0 (loop .left) (c .before .before .before .before .before .if1 .taken))) (sym (c .before .takes-mark .ensures) ∙ c .if2 .left)
 
 same-length : tie.Need-same-length Inv-loop μ-loop
@@ -80,7 +80,7 @@ returns : tie.Need-returns Inv-loop μ-loop
 returns c =
     let loop = c .before .before .loop in
     let a = c .before .before .before .before .before .before .args in
-    down-spent (a .numbers .now) (a .values .now) (a .head) (a .n) (a .lo) (a .r) (a .marking) (a .marks .now) (loop .i) (loop .left) (loop .marks) (ltb-false 0 (loop .left) (c .if1 .left)) (loop .inv)
+    down-spent (a .numbers .now) (a .values .now) (a .head) (a .n) (a .lo) (a .r) (a .by) (a .marks .now) (loop .i) (loop .left) (loop .marks) (ltb-false 0 (loop .left) (c .if1 .left)) (loop .inv)
 
 same-length-2 : tie.Need-same-length-2 Inv-loop μ-loop
 same-length-2 c = search needs
@@ -89,7 +89,7 @@ returns-2 : tie.Need-returns-2 Inv-loop μ-loop
 returns-2 c =
     let loop = c .before .loop in
     let a = c .before .before .before .before .before .args in
-    down-none (a .numbers .now) (a .values .now) (a .head) (a .n) (a .lo) (a .r) (a .marking) (a .marks .now) (loop .i) (loop .left) (loop .marks) (c .loop-test .left) (loop .inv)
+    down-none (a .numbers .now) (a .values .now) (a .head) (a .n) (a .lo) (a .r) (a .by) (a .marks .now) (loop .i) (loop .left) (loop .marks) (c .loop-test .left) (loop .inv)
 
 pub mark-down-spec : {M : Type 1} → statement M
 mark-down-spec =

@@ -1,3 +1,4 @@
+-- A refusal of the test is the answer; an accepted trace is one on which the policy can run.
 use mathlib.Core.Path.{sym, ap, _∙_}
 use Rattle.model.specs.Calls.{greedyCall}
 use Rattle.trace.specs.Checked.{verdictOf}
@@ -16,9 +17,10 @@ enum-known-refusal c = search needs
 enum-told : tie.Need-enum-told
 enum-told c = search needs
 
-finish-requires : tie.Need-finish-requires
-finish-requires c κs =
-    let a = c .before .before .before .before .before .before .before .before .before .before .before .before .before .before .args in
+finish-rule-requires : tie.Need-finish-rule-requires
+finish-rule-requires c κs =
+    let start = c .before .before .before .before .before .before .before .before .before .before .before .before .before .before in
+    let a = start .args in
     let accepted = ap verdictOf (sym (c .before .before .before .enum-told .given .1)) ∙ c .before .before .before .before .before .plain .ensures in
     greedy-ready (a .slots .now) (a .values .now) (a .room) _ accepted
 
@@ -34,7 +36,6 @@ same-length-3 c = search needs
 returns : tie.Need-returns
 unfolding greedyCall
 returns c =
-    let a = c .before .before .before .before .before .before .before .before .before .before .before .before .args in
     let told = c .before .refusal in
     refused _ _ _ (told .given .0 .0) (ap verdictOf (sym (told .given .1)) ∙ c .before .before .before .plain .ensures)
 
@@ -50,8 +51,11 @@ same-length-6 c = search needs
 returns-2 : tie.Need-returns-2
 unfolding greedyCall
 returns-2 c =
+    let start = c .before .before .before .before .before .before .before .before .before .before .before .before .before .before .before .before .before .before .before .before .before in
+    let a = start .args in
     let accepted = ap verdictOf (sym (c .before .before .before .before .before .before .before .before .before .before .enum-told .given .1)) ∙ c .before .before .before .before .before .before .before .before .before .before .before .before .plain .ensures in
-    c .before .before .before .before .before .before .finish .ensures ∙ not-refused _ _ _ accepted
+    c .before .before .before .before .before .before .finish-rule .ensures
+    ∙ not-refused _ _ _ accepted
 
 pub greedy-spec : {M : Type 1} → statement M
 greedy-spec =
@@ -60,7 +64,7 @@ greedy-spec =
     plain-requires
     enum-known-refusal
     enum-told
-    finish-requires
+    finish-rule-requires
     same-length
     same-length-2
     same-length-3

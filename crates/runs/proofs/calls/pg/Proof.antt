@@ -1,10 +1,11 @@
+-- A refusal of the test is the answer; an accepted trace is one on which the policy can run.
 use mathlib.Core.Path.{sym, ap, _∙_}
-use Rattle.model.specs.Packets.{arrivals}
 use Rattle.model.specs.Calls.{ran, pgCall}
-use Rattle.laws.proofs.PG.{pg-run}
 use Rattle.trace.specs.Checked.{verdictOf}
 use Rattle.steps.proofs.Answering.{refused, not-refused}
 use Rattle.runs.proofs.Ready.{pg-ready}
+use Rattle.model.specs.Packets.{arrivals}
+use Rattle.laws.proofs.PG.{pg-run}
 use borrow.Author.Needs.{needs}
 use Rattle.runs.proofs.calls.pg.Statement.{statement}
 use Rattle.runs.proofs.calls.pg.Tie as tie
@@ -18,9 +19,10 @@ enum-known-refusal c = search needs
 enum-told : tie.Need-enum-told
 enum-told c = search needs
 
-finish-requires : tie.Need-finish-requires
-finish-requires c κs =
-    let a = c .before .before .before .before .before .before .before .before .before .before .before .before .before .before .args in
+finish-rule-requires : tie.Need-finish-rule-requires
+finish-rule-requires c κs =
+    let start = c .before .before .before .before .before .before .before .before .before .before .before .before .before .before in
+    let a = start .args in
     let accepted = ap verdictOf (sym (c .before .before .before .enum-told .given .1)) ∙ c .before .before .before .before .before .pg .ensures in
     pg-ready (a .slots .now) (a .values .now) (a .room) _ (a .beta) accepted
 
@@ -36,7 +38,6 @@ same-length-3 c = search needs
 returns : tie.Need-returns
 unfolding pgCall
 returns c =
-    let a = c .before .before .before .before .before .before .before .before .before .before .before .before .args in
     let told = c .before .refusal in
     refused _ _ _ (told .given .0 .0) (ap verdictOf (sym (told .given .1)) ∙ c .before .before .before .pg .ensures)
 
@@ -52,9 +53,10 @@ same-length-6 c = search needs
 returns-2 : tie.Need-returns-2
 unfolding pgCall
 returns-2 c =
+    let start = c .before .before .before .before .before .before .before .before .before .before .before .before .before .before .before .before .before .before .before .before .before in
+    let a = start .args in
     let accepted = ap verdictOf (sym (c .before .before .before .before .before .before .before .before .before .before .enum-told .given .1)) ∙ c .before .before .before .before .before .before .before .before .before .before .before .before .pg .ensures in
-    let a = c .before .before .before .before .before .before .before .before .before .before .before .before .before .before .before .before .before .before .before .before .before .args in
-    c .before .before .before .before .before .before .finish .ensures
+    c .before .before .before .before .before .before .finish-rule .ensures
     ∙ ap (ran (a .slots .now) (a .values .now)) (sym (pg-run (a .room) (a .beta) (arrivals (a .slots .now) (a .values .now))))
     ∙ not-refused _ _ _ accepted
 
@@ -65,7 +67,7 @@ pg-spec =
     pg-requires
     enum-known-refusal
     enum-told
-    finish-requires
+    finish-rule-requires
     same-length
     same-length-2
     same-length-3

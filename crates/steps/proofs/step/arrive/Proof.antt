@@ -2,7 +2,7 @@ use native.Mathlib.Omega.{arith}
 use mathlib.Core.Path.{sym, _∙_}
 use Rattle.queue.specs.declared.Choice.the-variants.{Hold, Reject}
 use Rattle.steps.proofs.Windows.{part-length}
-use Rattle.entry.specs.Entry.{lists}
+use Rattle.model.specs.Record.{listsOf}
 use Rattle.steps.specs.Lent.{lent, moved}
 use Rattle.steps.proofs.Arriving.{lost-inside}
 use Rattle.steps.proofs.Deciding.{held-in, rejected-in, by-rule}
@@ -62,7 +62,7 @@ returns c =
     let a = start .args in
     let held = c .before .before .before .before .hold in
     let done = lent (held .result) (held .last .0) (held .last .1 .0) in
-    let now = (lists (a .fates .now) (a .whens .now) (a .bys .now)) in
+    let now = (listsOf (a .fates .now) (a .whens .now) (a .bys .now)) in
     by-rule (a .w) (a .numbers .now) (a .values .now) (start .pre .0) (a .slot) (a .p) now (a .room) (a .rule) Hold
     (sym (told _ _ (c .before .before .before .before .before .before .before .before .before .decide .ensures)) ∙ c .before .before .before .before .before .before .before .enum-told .given .1) (moved done now)
     (held-in (a .w) (a .numbers .now) (a .values .now) (start .pre .0) (a .slot) (a .p) now done (held .ensures))
@@ -84,8 +84,8 @@ returns-2 c =
     let start = c .before .before .before .before .before .before .before .before .before .before .before .before .before .before .before .before .before .before .before .before in
     let a = start .args in
     let entered = c .before .before .before .before .before .before .enter in
-    let now = (lists (a .fates .now) (a .whens .now) (a .bys .now)) in
-    let after = lists (entered .last .0) (entered .last .1 .0) (entered .last .1 .1 .0) in
+    let now = (listsOf (a .fates .now) (a .whens .now) (a .bys .now)) in
+    let after = listsOf (entered .last .0) (entered .last .1 .0) (entered .last .1 .1 .0) in
     by-rule (a .w) (a .numbers .now) (a .values .now) (start .pre .0) (a .slot) (a .p) now (a .room) (a .rule) Reject
     (sym (told _ _ (c .before .before .before .before .before .before .before .before .before .before .before .before .decide .ensures)) ∙ c .before .before .before .before .before .before .before .before .before .before .enum-told2 .given .1) (moved (lent (a .w) (a .numbers .now) (a .values .now)) after)
     (rejected-in (a .w) (a .numbers .now) (a .values .now) (start .pre .0) (a .slot) (a .p) now after (entered .ensures))
@@ -110,9 +110,9 @@ returns-3 c =
     let start = c .before .before .before .before .before .before .before .before .before .before .before .before .before .before .before .before .before .before .before .before .before .before .before .before .before .before .before in
     let a = start .args in
     let replaced = c .before .before .before .before .before .before .before .before .before .before .replace in
-    by-rule (a .w) (a .numbers .now) (a .values .now) (start .pre .0) (a .slot) (a .p) (lists (a .fates .now) (a .whens .now) (a .bys .now)) (a .room) (a .rule) _
+    by-rule (a .w) (a .numbers .now) (a .values .now) (start .pre .0) (a .slot) (a .p) (listsOf (a .fates .now) (a .whens .now) (a .bys .now)) (a .room) (a .rule) _
     (sym (told _ _ (c .before .before .before .before .before .before .before .before .before .before .before .before .before .before .before .before .before .before .before .decide .ensures)) ∙ c .before .before .before .before .before .before .before .before .before .before .before .before .before .before .before .before .before .place .given .1)
-    (moved (lent (replaced .result) (replaced .last .0) (replaced .last .1 .0)) (lists (replaced .last .1 .1 .0) (replaced .last .1 .1 .1 .0) (replaced .last .1 .1 .1 .1 .0)))
+    (moved (lent (replaced .result) (replaced .last .0) (replaced .last .1 .0)) (listsOf (replaced .last .1 .1 .0) (replaced .last .1 .1 .1 .0) (replaced .last .1 .1 .1 .1 .0)))
     (replaced .ensures)
 
 pub arrive-spec : {M : Type 1} → statement M

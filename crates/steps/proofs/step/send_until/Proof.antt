@@ -4,7 +4,7 @@ use mathlib.Core.Logic.{⊎-elim}
 use native.Mathlib.Omega.{arith}
 use borrow.Author.Needs.{needs}
 use lib.ListN.{length}
-use Rattle.entry.specs.Entry.{lists}
+use Rattle.model.specs.Record.{listsOf}
 use Rattle.steps.proofs.Sending.{Left, left-none, left-idle, left-turn}
 use Rattle.steps.proofs.step.send_until.Statement.{statement}
 use Rattle.steps.proofs.step.send_until.Tie as tie
@@ -14,7 +14,7 @@ Inv-loop numbers values fates₀ whens₀ bys₀ until head₀ tail slot₀ fate
     (length fates ≡ length fates₀)
     × (length whens ≡ length whens₀)
     × (length bys ≡ length bys₀)
-    × Left numbers values tail (until .0) head₀ slot₀ (lists fates₀ whens₀ bys₀) head slot (lists fates whens bys)
+    × Left numbers values tail (until .0) head₀ slot₀ (listsOf fates₀ whens₀ bys₀) head slot (listsOf fates whens bys)
 
 abbrev μ-loop : tie.MeasureT-loop
 μ-loop numbers values fates₀ whens₀ bys₀ until head₀ tail slot₀ fates whens bys head slot = until .0 - slot

@@ -1,2 +1,0 @@
-pub mod RunningMF
-pub mod Ready

@@ -1,3 +1,0 @@
-// MF on a trace.
-pub mod calls;
-mod mf;

@@ -1,3 +1,0 @@
-// The offline plan on a trace.
-pub mod calls;
-mod plan;

@@ -1,0 +1,116 @@
+// The policies whose queue is a window, each as a value, and what a slot brings under each: the ends of slots, and an arrival.
+ghost use mathlib.Core.Path.{_≡_};
+ghost use Prim.Native.Nat.{_-_, _<_};
+ghost use lib.Dec.{eqb};
+ghost use lib.ListN.{length};
+ghost use Rattle.model.specs.Policies.Plan.{keptOf};
+ghost use Rattle.steps.specs.Window.{Within};
+ghost use Rattle.steps.specs.Step.{arrival, arriving};
+ghost use Rattle.steps.specs.Lent.{movedFrom, movedTo};
+ghost use Rattle.flush.specs.Flush.{mfFrom, mfTo};
+ghost use Rattle.runs.specs.Policy.{endsBy, ruleBy, Does, DoesQueue};
+use entry::place_of;
+use model::Marking;
+use model::Packet;
+use model::PacketNumber;
+use model::Slot;
+use queue::Rule;
+use steps::Window;
+use steps::moves;
+
+// Plain greedy or PG with this room; the plan, whose kept packets stand in a list beside; or MF with this room, whose marks do.
+pub enum Policy {
+    Rule(usize, Rule),
+    Kept,
+    Marking(usize, Marking),
+}
+
+// Whether the plan keeps a packet.
+fn is_kept(kept: &[u8], number: PacketNumber) -> bool
+    ensures { λ r. ⌜ r ≡ eqb (keptOf (now (kept .entry)) number) 1 ⌝ }
+{
+    let place = place_of(number);
+    if kept.len() <= place {
+        return false;
+    }
+    kept[place] == 1
+}
+
+// The ends of the slots from `from` on, up to slot `until`.
+pub fn end_slots(
+    numbers: &mut [u32],
+    values: &mut [u32],
+    slots: &[u32],
+    marks: &mut [u32],
+    fates: &mut [u32],
+    whens: &mut [u32],
+    bys: &mut [u32],
+    policy: Policy,
+    w: Window,
+    from: Slot,
+    until: Slot,
+) -> Window
+    requires { ⌜ Within w (now numbers) (now values) ⌝ }
+    ensures { λ r. ⌜ Does (endsBy policy (now (slots .entry)) from until) (mfFrom w numbers values marks fates whens bys) (mfTo r numbers values marks fates whens bys) ⌝ }
+{
+    match policy {
+        Policy::Marking(room, marking) => flush::end_slots(
+            numbers,
+            values,
+            slots,
+            marks,
+            fates,
+            whens,
+            bys,
+            w,
+            room,
+            marking,
+            from,
+            until,
+        ),
+        Policy::Rule(_, _) => moves::send_until(numbers, values, fates, whens, bys, w, from, until),
+        Policy::Kept => moves::send_until(numbers, values, fates, whens, bys, w, from, until),
+    }
+}
+
+// The arrival of a packet in a slot.
+pub fn arrive(
+    numbers: &mut [u32],
+    values: &mut [u32],
+    kept: &[u8],
+    fates: &mut [u32],
+    whens: &mut [u32],
+    bys: &mut [u32],
+    policy: Policy,
+    w: Window,
+    slot: Slot,
+    p: Packet,
+) -> Window
+    requires { ⌜ Within w (now numbers) (now values) ⌝ }
+    requires { ⌜ w .tail - w .head < length (now values) ⌝ }
+    ensures { λ r. ⌜ DoesQueue (arriving (ruleBy policy (now (kept .entry))) (arrival slot p)) (movedFrom w numbers values fates whens bys) (movedTo r numbers values fates whens bys) ⌝ }
+{
+    match policy {
+        Policy::Rule(room, rule) => {
+            moves::arrive(numbers, values, fates, whens, bys, w, room, rule, slot, p)
+        }
+        Policy::Marking(room, _) => {
+            moves::arrive(
+                numbers,
+                values,
+                fates,
+                whens,
+                bys,
+                w,
+                room,
+                Rule::Greedy,
+                slot,
+                p,
+            )
+        }
+        Policy::Kept => {
+            let keep = is_kept(kept, p.number);
+            moves::hold_or_reject(numbers, values, fates, whens, bys, w, keep, slot, p)
+        }
+    }
+}
