@@ -1,3 +1,4 @@
+pub mod Empty
 pub mod Lifted
 pub mod Turning
 pub mod Running

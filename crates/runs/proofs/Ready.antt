@@ -37,21 +37,23 @@ module _ (slots values : List ℕ) (room : ℕ) (lists : Lists) where
   number-zero : (v : Verdict) → clear ≡ v → v .number ≡ 0
   number-zero v e = ap (λ (w : Verdict). w .number) (sym e)
 
-  pub greedy-ready : clear ≡ plainRefusal slots values room lists → Ready (byRule (greedyRule room)) [] slots values lists
+  pub greedy-ready : clear ≡ plainRefusal slots values room lists → Ready (byRule (greedyRule room)) [] slots values lists × (1 ≤ room)
   unfolding plainRefusal
   greedy-ready e =
       let none = number-zero _ e in
-      let T = accepted clear valueOk slots values room lists none in
-      ready (byRule (greedyRule room)) [] valueOk (λ v h. h) slots values room lists T
-      (wellFormed-greedy slots values (T .lengths) room) (lawful-greedy slots values room lists none)
+      let T = accepted clear valueOk slots values room lists none in (
+        ready (byRule (greedyRule room)) [] valueOk (λ v h. h) slots values room lists T
+            (wellFormed-greedy slots values (T .lengths) room) (lawful-greedy slots values room lists none),
+        T .room-from,
+      )
 
-  pub pg-ready : (beta : Beta) → clear ≡ pgRefusal beta slots values room lists → Ready (byRule (pgAtOnce room beta)) [] slots values lists
+  pub pg-ready : (beta : Beta) → clear ≡ pgRefusal beta slots values room lists → Ready (byRule (pgAtOnce room beta)) [] slots values lists × (1 ≤ room)
   unfolding pgRefusal
   pg-ready beta e =
       let none = number-zero _ e in
       let T = accepted (betaRefusal beta) valueOk slots values room lists none in
       let formed = rw (pg-run room beta (arrivals slots values)) at (wellFormed-pg slots values (T .lengths) room beta) in
-      ready (byRule (pgAtOnce room beta)) [] valueOk (λ v h. h) slots values room lists T formed (lawful-at-once slots values room lists beta none)
+      (ready (byRule (pgAtOnce room beta)) [] valueOk (λ v h. h) slots values room lists T formed (lawful-at-once slots values room lists beta none), T .room-from)
 
   pub mf-ready : (M : Marking) → clear ≡ mfRefusal M slots values room lists → Ready (mfPolicy room M slots) (unmarked (length slots)) slots values lists
   unfolding mfRefusal

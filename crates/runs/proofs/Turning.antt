@@ -13,7 +13,6 @@ use Rattle.model.specs.Policies.Plan.{keptRule}
 use Rattle.model.specs.Policies.MF.{Marked}
 use Rattle.laws.proofs.Conserving.{conserving-mf, slotEnds-shorter}
 use Rattle.laws.proofs.Standing.{turn}
-use Rattle.queue.specs.Choose.{ruleOf}
 use Rattle.steps.specs.declared.Window.{Window}
 use Rattle.steps.specs.Window.{windowOf, Within}
 use Rattle.steps.specs.Step.{Stepped, sending, arriving}
@@ -22,18 +21,16 @@ use Rattle.steps.proofs.Turning.{entered-both, sending-shorter, sending-is}
 use Rattle.marks.specs.Mark.{beside}
 use Rattle.flush.specs.Flush.{Finished, ending}
 use Rattle.runs.specs.declared.policy.Policy.{Policy as Named}
-use Rattle.runs.specs.declared.policy.Policy.the-variants.{Rule, Kept, Marking}
+use Rattle.runs.specs.declared.policy.Policy.the-variants.{Kept, Marking}
 use Rattle.runs.specs.Policy.{queueStep, lifted, ruleBy, endsBy, turnBy, policyBy}
 use Rattle.runs.proofs.Lifted.{lifted-ends}
 
 -- what the policy holds is the queue
 pub held-is : (policy : Named) (slots kept : List ℕ) (s : Marked) → policyBy policy slots kept .held s ≡ s .queue
-held-is (Rule room rule) slots kept s = refl
 held-is Kept slots kept s = refl
 held-is (Marking room marking) slots kept s = refl
 
 arrive-is : (policy : Named) (slots kept : List ℕ) (a : Arrival) (s : Marked) → queueStep (arriving (ruleBy policy kept) a) s ≡ policyBy policy slots kept .arrive a s
-arrive-is (Rule room rule) slots kept a s = refl
 arrive-is Kept slots kept a s = refl
 arrive-is (Marking room marking) slots kept a s = refl
 
@@ -45,14 +42,12 @@ module _ (slots kept : List ℕ) (from until : Slot) (queue : List Packet) (mark
 
   pub ends-are : (policy : Named) → endsBy policy slots from until (beside queue marks) ≡ slotEnds (policyBy policy slots kept) (slotsUntil from until) from (beside queue marks)
   unfolding ending
-  ends-are (Rule room rule) = sends-are (ruleOf room rule)
   ends-are Kept = sends-are (keptRule kept)
   ends-are (Marking room marking) = refl
 
   -- the ends of slots make no queue longer
   ends-shorter : (policy : Named) → length (endsBy policy slots from until (beside queue marks) .next .queue) ≤ length queue
   unfolding ending
-  ends-shorter (Rule room rule) = sending-shorter from until queue
   ends-shorter Kept = sending-shorter from until queue
   ends-shorter (Marking room marking) = omega (arith, slotEnds-shorter (conserving-mf room marking slots) (slotsUntil from until) from (beside queue marks))
 

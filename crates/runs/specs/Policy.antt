@@ -9,14 +9,13 @@ use Rattle.model.specs.Course.{Step, Policy, Decided, andThen, byRule, sendOlde
 use Rattle.model.specs.Policies.Greedy.{greedyRule}
 use Rattle.model.specs.Policies.MF.{Marked, mfPolicy}
 use Rattle.model.specs.Policies.Plan.{keptRule}
-use Rattle.queue.specs.Choose.{ruleOf}
 use Rattle.steps.specs.Step.{Stepped, sending, arriving}
 use Rattle.steps.specs.Lent.{queueIn, Moved}
 use Rattle.steps.specs.Run.{Ran}
 use Rattle.marks.specs.Mark.{beside}
 use Rattle.flush.specs.Flush.{Finished, ending, MovedMF}
 use Rattle.runs.specs.declared.policy.Policy.{Policy as Named}
-use Rattle.runs.specs.declared.policy.Policy.the-variants.{Rule, Kept, Marking}
+use Rattle.runs.specs.declared.policy.Policy.the-variants.{Kept, Marking}
 
 -- a step of the queue alone
 abbrev pub queueStep : (List Packet → Step (List Packet)) → Marked → Step Marked
@@ -35,13 +34,11 @@ lifted rule =
 
 -- the rule for arrivals: MF's is that of plain greedy
 abbrev pub ruleBy : Named → List ℕ → List Packet → Packet → Decided
-ruleBy (Rule room rule) kept = ruleOf room rule
 ruleBy Kept kept = keptRule kept
 ruleBy (Marking room marking) kept = greedyRule room
 
 -- the ends of the slots before the next arrival: MF's mark and flush, all others only send
 abbrev pub endsBy : Named → List ℕ → Slot → Slot → Marked → Step Marked
-endsBy (Rule room rule) slots from until = queueStep (sending from until)
 endsBy Kept slots from until = queueStep (sending from until)
 endsBy (Marking room marking) slots from until = ending room marking slots from until
 
@@ -53,7 +50,6 @@ turnBy policy slots kept last a s =
 
 -- the policy
 abbrev pub policyBy : Named → List ℕ → List ℕ → Policy Marked
-policyBy (Rule room rule) slots kept = lifted (ruleOf room rule)
 policyBy Kept slots kept = lifted (keptRule kept)
 policyBy (Marking room marking) slots kept = mfPolicy room marking slots
 

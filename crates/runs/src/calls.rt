@@ -1,6 +1,7 @@
 // The public calls of the three policies and of the offline plan: each tests its input, runs, and answers the totals of the record that it wrote.
 ghost use mathlib.Core.Path.{_≡_};
 ghost use mathlib.Core.List.{[]};
+ghost use Prim.Native.Nat.{_≤_};
 ghost use lib.ListN.{length};
 ghost use Rattle.model.specs.Calls.{ran, greedyCall, pgCall, mfCall, planCall};
 ghost use Rattle.model.specs.Lent.{listsBefore, listsAfter};
@@ -16,6 +17,7 @@ ghost use Rattle.steps.specs.Calls.{Ready, outcome};
 ghost use Rattle.marks.specs.Mark.{beside};
 ghost use Rattle.runs.specs.Policy.{policyBy, courseBy};
 use crate::policy::Policy;
+use crate::rule::run_rule;
 use crate::run::run;
 use kept::keep;
 use model::Beta;
@@ -40,11 +42,11 @@ fn finish(
     requires { ⌜ Ready (policyBy policy (now slots) (now kept)) (beside [] (now marks)) (now slots) (now values) (listsOf (now fates) (now whens) (now bys)) ⌝ }
     ensures { λ r. ⌜ outcome r (listsAfter fates whens bys) ≡ ran (now (slots .entry)) (now (values .entry)) (courseBy policy (now (kept .entry)) (now (marks .entry)) (now (slots .entry)) (now (values .entry))) ⌝ }
 {
-    let most = run(slots, values, policy, kept, marks, fates, whens, bys);
-    RunAnswer::Ran(totals(values, fates, most))
+    let most_held = run(slots, values, policy, kept, marks, fates, whens, bys);
+    RunAnswer::Ran(totals(values, fates, most_held))
 }
 
-// A rule's run: it has no list of its own.
+// A rule's run over an accepted trace, and its totals.
 fn finish_rule(
     slots: &[u32],
     values: &[u32],
@@ -55,11 +57,11 @@ fn finish_rule(
     bys: &mut [u32],
 ) -> RunAnswer
     requires { ⌜ Ready (byRule (ruleOf room rule)) [] (now slots) (now values) (listsOf (now fates) (now whens) (now bys)) ⌝ }
+    requires { ⌜ 1 ≤ room ⌝ }
     ensures { λ r. ⌜ outcome r (listsAfter fates whens bys) ≡ ran (now (slots .entry)) (now (values .entry)) (runBy (ruleOf room rule) (arrivals (now (slots .entry)) (now (values .entry)))) ⌝ }
 {
-    let mut marks = [0u32; 0];
-    let policy = Policy::Rule(room, rule);
-    finish(slots, values, policy, &[], &mut marks, fates, whens, bys)
+    let most = run_rule(slots, values, room, rule, fates, whens, bys);
+    RunAnswer::Ran(totals(values, fates, most))
 }
 
 // Plain greedy.

@@ -18,9 +18,8 @@ use queue::Rule;
 use steps::Window;
 use steps::moves;
 
-// Plain greedy or PG with this room; the plan, whose kept packets stand in a list beside; or MF with this room, whose marks do.
+// The plan, whose kept packets stand in a list beside; or MF with this room, whose marks do.
 pub enum Policy {
-    Rule(usize, Rule),
     Kept,
     Marking(usize, Marking),
 }
@@ -68,7 +67,6 @@ pub fn end_slots(
             from,
             until,
         ),
-        Policy::Rule(_, _) => moves::send_until(numbers, values, fates, whens, bys, w, from, until),
         Policy::Kept => moves::send_until(numbers, values, fates, whens, bys, w, from, until),
     }
 }
@@ -91,9 +89,6 @@ pub fn arrive(
     ensures { λ r. ⌜ DoesQueue (arriving (ruleBy policy (now (kept .entry))) (arrival slot p)) (movedFrom w numbers values fates whens bys) (movedTo r numbers values fates whens bys) ⌝ }
 {
     match policy {
-        Policy::Rule(room, rule) => {
-            moves::arrive(numbers, values, fates, whens, bys, w, room, rule, slot, p)
-        }
         Policy::Marking(room, _) => {
             moves::arrive(
                 numbers,

@@ -10,4 +10,5 @@ pub mod Lending
 pub mod Turning
 pub mod Places
 pub mod Coursing
+pub mod Running
 pub mod Answering

@@ -1,26 +1,18 @@
--- A rule beside marks, which it does not use, runs as the rule does.
-use mathlib.Core.Path.{ap, _∙_}
+-- The run writes the record and answers its greatest length, from which and from the record the totals are counted.
 use mathlib.Core.List.{[]}
-use Rattle.model.specs.Packets.{arrivals}
-use Rattle.model.specs.Calls.{ran}
-use Rattle.model.specs.Course.{first}
+use Rattle.model.specs.Record.{listsOf}
+use Rattle.model.specs.Course.{byRule}
 use Rattle.queue.specs.Choose.{ruleOf}
-use Rattle.runs.proofs.Lifted.{lifted-course, lifted-ready}
+use Rattle.steps.proofs.Answering.{finished}
 use borrow.Author.Needs.{needs}
 use Rattle.runs.proofs.calls.finish_rule.Statement.{statement}
 use Rattle.runs.proofs.calls.finish_rule.Tie as tie
 
-slice-aggregate-finish : tie.Need-slice-aggregate-finish
-slice-aggregate-finish c = search needs
+run-rule-requires : tie.Need-run-rule-requires
+run-rule-requires c κs = search needs
 
-slice-aggregate-finish-2 : tie.Need-slice-aggregate-finish-2
-slice-aggregate-finish-2 c = search needs
-
-finish-requires : tie.Need-finish-requires
-finish-requires c κs =
-    let start = c .before .before .before .before .before .before .before .before .before .before in
-    let a = start .args in
-    lifted-ready (ruleOf (a .room) (a .rule)) _ (a .slots .now) (a .values .now) _ (start .pre)
+totals-requires : tie.Need-totals-requires
+totals-requires c κs = search needs
 
 same-length : tie.Need-same-length
 same-length c = search needs
@@ -33,19 +25,13 @@ same-length-3 c = search needs
 
 returns : tie.Need-returns
 returns c =
-    let start = c .before .before .before .before .before .before .before .before .before .before .before .before .before .before .before .before .before .before in
+    let start = c .before .before .before .before .before .before .before .before .before .before .before .before .before .before .before .before .before in
     let a = start .args in
-    c .before .before .before .before .before .before .before .finish .ensures
-    ∙ ap (ran (a .slots .now) (a .values .now)) (lifted-course (ruleOf (a .room) (a .rule)) _ first [] (arrivals (a .slots .now) (a .values .now)))
+    let done = c .before .before .before .before .before .before .before .before .run-rule in
+    finished (byRule (ruleOf (a .room) (a .rule))) [] (a .slots .now) (a .values .now) (listsOf (a .fates .now) (a .whens .now) (a .bys .now)) (start .pre .0)
+    (listsOf (done .last .1 .1 .1 .1 .0) (done .last .1 .1 .1 .1 .1 .0) (done .last .1 .1 .1 .1 .1 .1 .0)) (done .result) (done .ensures) (c .totals .result) (c .totals .ensures)
 
 pub finish-rule-spec : {M : Type 1} → statement M
 finish-rule-spec =
     tie.close
-    (tie.spec
-    slice-aggregate-finish
-    slice-aggregate-finish-2
-    finish-requires
-    same-length
-    same-length-2
-    same-length-3
-    returns)
+    (tie.spec run-rule-requires totals-requires same-length same-length-2 same-length-3 returns)

@@ -15,12 +15,6 @@ enum-known-policy c = search needs
 arrive-requires : tie.Need-arrive-requires
 arrive-requires c κs = search needs
 
-enum-known-policy-2 : tie.Need-enum-known-policy-2
-enum-known-policy-2 c = search needs
-
-arrive-requires-2 : tie.Need-arrive-requires-2
-arrive-requires-2 c κs = search needs
-
 enum-told : tie.Need-enum-told
 enum-told c = search needs
 
@@ -53,7 +47,7 @@ returns c =
     let arrived = c .before .before .before .before .before .before .before .before .before .before .arrive in
     let free = free-place (a .w) (a .numbers .now) (a .values .now) (start .pre .0) (start .pre .1) in
     rw (known .1)
-    (arrived-steps (a .w) (a .numbers .now) (a .values .now) free (known .0 .0) (known .0 .1 .0) (arrival (a .slot) (a .p)) (listsOf (a .fates .now) (a .whens .now) (a .bys .now))
+    (arrived-steps (a .w) (a .numbers .now) (a .values .now) free (known .0 .0) Greedy (arrival (a .slot) (a .p)) (listsOf (a .fates .now) (a .whens .now) (a .bys .now))
     (listsOf (arrived .last .1 .1 .0) (arrived .last .1 .1 .1 .0) (arrived .last .1 .1 .1 .1 .0)) (arrived .result) (arrived .last .0) (arrived .last .1 .0) (arrived .ensures))
 
 same-length-6 : tie.Need-same-length-6
@@ -72,34 +66,8 @@ same-length-10 : tie.Need-same-length-10
 same-length-10 c = search needs
 
 returns-2 : tie.Need-returns-2
-returns-2 c =
-    let start = c .before .before .before .before .before .before .before .before .before .before .before .before .before .before .before .before .before .before .before .before .before .before .before .before .before in
-    let a = start .args in
-    let known = c .before .before .before .before .before .before .before .before .before .before .before .before .before .before .before .before .before .policy2 .given in
-    let arrived = c .before .before .before .before .before .before .before .before .before .before .arrive2 in
-    let free = free-place (a .w) (a .numbers .now) (a .values .now) (start .pre .0) (start .pre .1) in
-    rw (known .1)
-    (arrived-steps (a .w) (a .numbers .now) (a .values .now) free (known .0 .0) Greedy (arrival (a .slot) (a .p)) (listsOf (a .fates .now) (a .whens .now) (a .bys .now))
-    (listsOf (arrived .last .1 .1 .0) (arrived .last .1 .1 .1 .0) (arrived .last .1 .1 .1 .1 .0)) (arrived .result) (arrived .last .0) (arrived .last .1 .0) (arrived .ensures))
-
-same-length-11 : tie.Need-same-length-11
-same-length-11 c = search needs
-
-same-length-12 : tie.Need-same-length-12
-same-length-12 c = search needs
-
-same-length-13 : tie.Need-same-length-13
-same-length-13 c = search needs
-
-same-length-14 : tie.Need-same-length-14
-same-length-14 c = search needs
-
-same-length-15 : tie.Need-same-length-15
-same-length-15 c = search needs
-
-returns-3 : tie.Need-returns-3
 unfolding keptRule
-returns-3 c =
+returns-2 c =
     let start = c .before .before .before .before .before .before .before .before .before .before .before .before .before .before .before .before .before .before .before .before .before .before .before .before .before in
     let a = start .args in
     let done = c .before .before .before .before .before .before .before .before .before .before .hold-or-reject in
@@ -115,8 +83,6 @@ arrive-spec =
     (tie.spec
     enum-known-policy
     arrive-requires
-    enum-known-policy-2
-    arrive-requires-2
     enum-told
     is-kept-requires
     hold-or-reject-requires
@@ -131,10 +97,4 @@ arrive-spec =
     same-length-8
     same-length-9
     same-length-10
-    returns-2
-    same-length-11
-    same-length-12
-    same-length-13
-    same-length-14
-    same-length-15
-    returns-3)
+    returns-2)

@@ -1,4 +1,4 @@
--- By cases of the policy: MF's ends mark and flush, all others only send, and then the marks stay.
+-- By cases of the policy: MF's ends mark and flush; the plan's only send, and the marks stay.
 use Rattle.model.specs.Record.{listsOf}
 use Rattle.steps.specs.Window.{windowOf}
 use Rattle.steps.specs.Step.{sending}
@@ -20,12 +20,6 @@ enum-told c = search needs
 
 send-until-requires : tie.Need-send-until-requires
 send-until-requires c κs = search needs
-
-enum-told-2 : tie.Need-enum-told-2
-enum-told-2 c = search needs
-
-send-until-requires-2 : tie.Need-send-until-requires-2
-send-until-requires-2 c κs = search needs
 
 same-length : tie.Need-same-length
 same-length c = search needs
@@ -81,31 +75,6 @@ returns-2 c =
     (queue-done (sending (a .from) (a .until)) (windowOf (a .w) (a .numbers .now) (a .values .now)) (a .marks .now) (listsOf (a .fates .now) (a .whens .now) (a .bys .now)) (sent .result) (a .numbers .now) (a .values .now) after
     (sent-steps (a .w) (a .numbers .now) (a .values .now) (start .pre) (a .from) (a .until) (listsOf (a .fates .now) (a .whens .now) (a .bys .now)) after (sent .result) (sent .ensures)))
 
-same-length-12 : tie.Need-same-length-12
-same-length-12 c = search needs
-
-same-length-13 : tie.Need-same-length-13
-same-length-13 c = search needs
-
-same-length-14 : tie.Need-same-length-14
-same-length-14 c = search needs
-
-same-length-15 : tie.Need-same-length-15
-same-length-15 c = search needs
-
-same-length-16 : tie.Need-same-length-16
-same-length-16 c = search needs
-
-returns-3 : tie.Need-returns-3
-returns-3 c =
-    let start = c .before .before .before .before .before .before .before .before .before .before .before .before .before .before .before .before .before .before .before .before .before in
-    let a = start .args in
-    let sent = c .before .before .before .before .before .before .send-until2 in
-    let after = listsOf (sent .last .1 .1 .0) (sent .last .1 .1 .1 .0) (sent .last .1 .1 .1 .1 .0) in
-    rw (c .before .before .before .before .before .before .before .before .before .before .before .before .enum-told2 .given .1)
-    (queue-done (sending (a .from) (a .until)) (windowOf (a .w) (a .numbers .now) (a .values .now)) (a .marks .now) (listsOf (a .fates .now) (a .whens .now) (a .bys .now)) (sent .result) (a .numbers .now) (a .values .now) after
-    (sent-steps (a .w) (a .numbers .now) (a .values .now) (start .pre) (a .from) (a .until) (listsOf (a .fates .now) (a .whens .now) (a .bys .now)) after (sent .result) (sent .ensures)))
-
 pub end-slots-spec : {M : Type 1} → statement M
 end-slots-spec =
     tie.close
@@ -114,8 +83,6 @@ end-slots-spec =
     end-slots-requires
     enum-told
     send-until-requires
-    enum-told-2
-    send-until-requires-2
     same-length
     same-length-2
     same-length-3
@@ -128,10 +95,4 @@ end-slots-spec =
     same-length-9
     same-length-10
     same-length-11
-    returns-2
-    same-length-12
-    same-length-13
-    same-length-14
-    same-length-15
-    same-length-16
-    returns-3)
+    returns-2)
