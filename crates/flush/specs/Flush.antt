@@ -1,7 +1,6 @@
 -- What a flush and the end of a slot do under MF.
 use Prim.Native.Nat.{ℕ, zero, suc}
 use mathlib.Core.Path.{_≡_}
-use denote.Ref.{now}
 use mathlib.Core.Bool.{cond}
 use mathlib.Core.List.{List, [], _∷_}
 use Rattle.model.specs.declared.PacketNumber.{PacketNumber}
@@ -12,7 +11,7 @@ use Rattle.model.specs.Packets.{slotsUntil, following}
 use Rattle.model.specs.Course.{Step, sendOldest, slotEnds}
 use Rattle.model.specs.declared.Marking.{Marking}
 use Rattle.model.specs.Policies.MF.{Marked, marksAfter, headMark, flushed, unflushed, mfPolicy}
-use Rattle.model.specs.Lent.{LentList, listsBefore, listsAfter}
+use Rattle.model.specs.Lent.{LentList, was, left, listsBefore, listsAfter}
 use Rattle.steps.specs.declared.Window.{Window}
 use Rattle.steps.specs.Window.{Within, windowOf}
 use Rattle.steps.specs.Guarded.{liesWithin}
@@ -77,10 +76,10 @@ endingIn room M slots now until l marks lists =
 -- all of these before a call, and after it
 abbrev pub mfFrom : Window → LentList → LentList → LentList → LentList → LentList → LentList → MovedMF
 mfFrom w numbers values marks fates whens bys =
-    movedMF (lentBefore w numbers values) (now (marks .entry)) (listsBefore fates whens bys)
+    movedMF (lentBefore w numbers values) (was marks) (listsBefore fates whens bys)
 
 abbrev pub mfTo : Window → LentList → LentList → LentList → LentList → LentList → LentList → MovedMF
-mfTo w numbers values marks fates whens bys = movedMF (lentAfter w numbers values) (now (marks .exit)) (listsAfter fates whens bys)
+mfTo w numbers values marks fates whens bys = movedMF (lentAfter w numbers values) (left marks) (listsAfter fates whens bys)
 
 -- a step on all of these
 abbrev pub onMF : (Lent → List ℕ → Lists → MovedMF) → MovedMF → MovedMF

@@ -5,7 +5,7 @@ mod said;
 ghost use Rattle.model.specs.Calls.{greedyCall, pgCall, mfCall, planCall, auditCall};
 ghost use Rattle.model.specs.Port.{makeCall};
 ghost use mathlib.Core.Path.{_≡_};
-ghost use Rattle.model.specs.Lent.{listsBefore, listsAfter};
+ghost use Rattle.model.specs.Lent.{was, left, listsBefore, listsAfter};
 ghost use Rattle.host.specs.Said.{betaOf, markingOf, Said, SaidOfAudit};
 ghost use Rattle.host.specs.Live.{heardOf};
 use crate::live::feed;
@@ -33,7 +33,7 @@ pub extern "C" fn host_greedy(
     bys: &mut [u32],
     totals: &mut [u32],
 ) -> u64
-    ensures { λ r. ⌜ Said (greedyCall (now (slots .entry)) (now (values .entry)) room (listsBefore fates whens bys)) (now (totals .entry)) r (listsAfter fates whens bys) (now (totals .exit)) ⌝ }
+    ensures { λ r. ⌜ Said (greedyCall (was slots) (was values) room (listsBefore fates whens bys)) (was totals) r (listsAfter fates whens bys) (left totals) ⌝ }
 {
     say_run(greedy(slots, values, room, fates, whens, bys), totals)
 }
@@ -51,7 +51,7 @@ pub extern "C" fn host_pg(
     bys: &mut [u32],
     totals: &mut [u32],
 ) -> u64
-    ensures { λ r. ⌜ Said (pgCall (now (slots .entry)) (now (values .entry)) room (betaOf num den) (listsBefore fates whens bys)) (now (totals .entry)) r (listsAfter fates whens bys) (now (totals .exit)) ⌝ }
+    ensures { λ r. ⌜ Said (pgCall (was slots) (was values) room (betaOf num den) (listsBefore fates whens bys)) (was totals) r (listsAfter fates whens bys) (left totals) ⌝ }
 {
     say_run(
         pg(slots, values, room, Beta { num, den }, fates, whens, bys),
@@ -73,7 +73,7 @@ pub extern "C" fn host_mf(
     bys: &mut [u32],
     totals: &mut [u32],
 ) -> u64
-    ensures { λ a. ⌜ Said (mfCall (now (slots .entry)) (now (values .entry)) room (markingOf lo hi r) (listsBefore fates whens bys)) (now (totals .entry)) a (listsAfter fates whens bys) (now (totals .exit)) ⌝ }
+    ensures { λ a. ⌜ Said (mfCall (was slots) (was values) room (markingOf lo hi r) (listsBefore fates whens bys)) (was totals) a (listsAfter fates whens bys) (left totals) ⌝ }
 {
     say_run(
         mf(
@@ -100,7 +100,7 @@ pub extern "C" fn host_plan(
     bys: &mut [u32],
     totals: &mut [u32],
 ) -> u64
-    ensures { λ r. ⌜ Said (planCall (now (slots .entry)) (now (values .entry)) room (listsBefore fates whens bys)) (now (totals .entry)) r (listsAfter fates whens bys) (now (totals .exit)) ⌝ }
+    ensures { λ r. ⌜ Said (planCall (was slots) (was values) room (listsBefore fates whens bys)) (was totals) r (listsAfter fates whens bys) (left totals) ⌝ }
 {
     say_run(plan(slots, values, room, fates, whens, bys), totals)
 }
@@ -116,7 +116,7 @@ pub extern "C" fn host_audit(
     bys: &[u32],
     totals: &mut [u32],
 ) -> u64
-    ensures { λ r. ⌜ SaidOfAudit (auditCall (now (slots .entry)) (now (values .entry)) room (listsBefore fates whens bys)) (now (totals .entry)) r (now (totals .exit)) ⌝ }
+    ensures { λ r. ⌜ SaidOfAudit (auditCall (was slots) (was values) room (listsBefore fates whens bys)) (was totals) r (left totals) ⌝ }
 {
     say_audit(audit(slots, values, room, fates, whens, bys), totals)
 }

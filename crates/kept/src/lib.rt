@@ -8,6 +8,7 @@ ghost use Rattle.model.specs.Packets.{arrivals};
 ghost use Rattle.model.specs.Refusals.{valueOk};
 ghost use Rattle.model.specs.Policies.Plan.{planKept};
 ghost use Rattle.model.specs.Record.{listsOf};
+ghost use Rattle.model.specs.Lent.{was, left};
 ghost use Rattle.laws.proofs.Accepted.{Accepted};
 ghost use Rattle.steps.specs.Guarded.{Guarded};
 ghost use Rattle.order.specs.Order.{Inside};
@@ -110,7 +111,7 @@ fn keep_all(slots: &[u32], values: &[u32], room: usize, kept: &mut [u8])
 
 // Keeps the plan's packets. Where the trace or the room is not accepted, or `kept` has not an entry for each packet, it is as before.
 pub fn keep(slots: &[u32], values: &[u32], room: usize, kept: &mut [u8])
-    ensures { λ _. ⌜ Guarded (accepts (now (slots .entry)) (now (values .entry)) room (now (kept .entry))) (now (kept .exit) ≡ planKept room (arrivals (now (slots .entry)) (now (values .entry)))) (now (kept .exit) ≡ now (kept .entry)) ⌝ }
+    ensures { λ _. ⌜ Guarded (accepts (was slots) (was values) room (was kept)) (left kept ≡ planKept room (arrivals (was slots) (was values))) (left kept ≡ was kept) ⌝ }
 {
     if kept.len() != slots.len() {
         return;

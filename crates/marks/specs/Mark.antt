@@ -9,6 +9,9 @@ use Rattle.model.specs.declared.Slot.{Slot}
 use Rattle.model.specs.Packets.{slotOf}
 use Rattle.model.specs.declared.Marking.{Marking}
 use Rattle.model.specs.Policies.MF.{Marked, markDown}
+use Rattle.model.specs.Lent.{LentList, was}
+use Rattle.steps.specs.declared.Window.{Window}
+use Rattle.steps.specs.Window.{windowOf}
 
 -- the packet at a place of two lists
 abbrev pub packetIn : List ℕ → List ℕ → ℕ → Packet
@@ -27,3 +30,7 @@ markedBy M slots now older p marks =
 -- a queue beside its marks
 abbrev pub beside : List Packet → List ℕ → Marked
 beside queue marks = record { queue = queue; marks = marks }
+
+-- a window's queue beside its marks before a call
+abbrev pub markedBefore : Window → LentList → LentList → LentList → Marked
+markedBefore w numbers values marks = beside (windowOf w (was numbers) (was values)) (was marks)

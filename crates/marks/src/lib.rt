@@ -1,9 +1,10 @@
 // MF's marks: one number for each packet of the trace, that of the packet that marked it, 0 for none.
 ghost use mathlib.Core.Path.{_≡_};
 ghost use Rattle.model.specs.Policies.MF.{markOf, marksAfter};
-ghost use Rattle.steps.specs.Window.{windowOf};
-ghost use Rattle.steps.specs.Guarded.{Guarded, liesWithin};
-ghost use Rattle.marks.specs.Mark.{beside};
+ghost use Rattle.model.specs.Lent.{was, left};
+ghost use Rattle.steps.specs.Guarded.{Guarded};
+ghost use Rattle.steps.specs.Lent.{liesBefore};
+ghost use Rattle.marks.specs.Mark.{markedBefore};
 use entry::number_of;
 use model::Marking;
 use model::Packet;
@@ -32,7 +33,7 @@ pub fn mark(
     marking: Marking,
     slot: Slot,
 )
-    ensures { λ _. ⌜ Guarded (liesWithin w (now (numbers .entry)) (now (values .entry))) (now (marks .exit) ≡ marksAfter room marking (now (slots .entry)) slot (beside (windowOf w (now (numbers .entry)) (now (values .entry))) (now (marks .entry)))) (now (marks .exit) ≡ now (marks .entry)) ⌝ }
+    ensures { λ _. ⌜ Guarded (liesBefore w numbers values) (left marks ≡ marksAfter room marking (was slots) slot (markedBefore w numbers values marks)) (left marks ≡ was marks) ⌝ }
 {
     if !lies_within(numbers, values, w) {
         return;

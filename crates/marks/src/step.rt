@@ -5,6 +5,7 @@ ghost use Prim.Native.Nat.{min, _+_, _-_, _≤_};
 ghost use lib.Dec.{eqb};
 ghost use Rattle.model.specs.Packets.{slotOf};
 ghost use Rattle.model.specs.Policies.MF.{isMarked, markDown, marksAfter};
+ghost use Rattle.model.specs.Lent.{was, left};
 ghost use Rattle.steps.specs.Window.{windowOf, Within};
 ghost use Rattle.marks.specs.Mark.{packetIn, olderThan, markedBy, beside};
 use crate::mark_of;
@@ -49,7 +50,7 @@ fn mark_down(
     by: PacketNumber,
 )
     requires { ⌜ Within (record { head = head; tail = head + n }) (now numbers) (now values) ⌝ }
-    ensures { λ _. ⌜ now (marks .exit) ≡ markDown lo r by (olderThan (now (numbers .entry)) (now (values .entry)) head n) (now (marks .entry)) ⌝ }
+    ensures { λ _. ⌜ left marks ≡ markDown lo r by (olderThan (was numbers) (was values) head n) (was marks) ⌝ }
 {
     let mut i = n;
     let mut left = r;
@@ -79,7 +80,7 @@ fn mark_by(
     slot: Slot,
 )
     requires { ⌜ Within (record { head = head; tail = head + i + 1 }) (now numbers) (now values) ⌝ }
-    ensures { λ _. ⌜ now (marks .exit) ≡ markedBy marking (now (slots .entry)) slot (olderThan (now (numbers .entry)) (now (values .entry)) head i) (packetIn (now (numbers .entry)) (now (values .entry)) (head + i)) (now (marks .entry)) ⌝ }
+    ensures { λ _. ⌜ left marks ≡ markedBy marking (was slots) slot (olderThan (was numbers) (was values) head i) (packetIn (was numbers) (was values) (head + i)) (was marks) ⌝ }
 {
     let k = head + i;
     let number = numbers[k];
@@ -129,7 +130,7 @@ pub fn mark(
     slot: Slot,
 )
     requires { ⌜ Within w (now numbers) (now values) ⌝ }
-    ensures { λ _. ⌜ now (marks .exit) ≡ marksAfter room marking (now (slots .entry)) slot (beside (windowOf w (now (numbers .entry)) (now (values .entry))) (now (marks .entry))) ⌝ }
+    ensures { λ _. ⌜ left marks ≡ marksAfter room marking (was slots) slot (beside (windowOf w (was numbers) (was values)) (was marks)) ⌝ }
 {
     let head = w.head;
     let n = positions(w, room);

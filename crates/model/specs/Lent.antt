@@ -9,9 +9,16 @@ use Rattle.model.specs.Record.{Lists, listsOf}
 abbrev pub LentList : Type 0
 LentList = Both (RefT (List ℕ)) (RefT (List ℕ))
 
+-- a list before a call, and after it
+abbrev pub was : LentList → List ℕ
+was list = now (list .entry)
+
+abbrev pub left : LentList → List ℕ
+left list = now (list .exit)
+
 -- the record's three lists before a call, and after it
 abbrev pub listsBefore : LentList → LentList → LentList → Lists
-listsBefore fates whens bys = listsOf (now (fates .entry)) (now (whens .entry)) (now (bys .entry))
+listsBefore fates whens bys = listsOf (was fates) (was whens) (was bys)
 
 abbrev pub listsAfter : LentList → LentList → LentList → Lists
-listsAfter fates whens bys = listsOf (now (fates .exit)) (now (whens .exit)) (now (bys .exit))
+listsAfter fates whens bys = listsOf (left fates) (left whens) (left bys)

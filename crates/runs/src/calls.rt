@@ -4,7 +4,7 @@ ghost use mathlib.Core.List.{[]};
 ghost use Prim.Native.Nat.{_≤_};
 ghost use lib.ListN.{length};
 ghost use Rattle.model.specs.Calls.{ran, greedyCall, pgCall, mfCall, planCall};
-ghost use Rattle.model.specs.Lent.{listsBefore, listsAfter};
+ghost use Rattle.model.specs.Lent.{was, listsBefore, listsAfter};
 ghost use Rattle.model.specs.Packets.{arrivals};
 ghost use Rattle.model.specs.Record.{listsOf};
 ghost use Rattle.model.specs.Course.{byRule, runBy};
@@ -40,7 +40,7 @@ fn finish(
     bys: &mut [u32],
 ) -> RunAnswer
     requires { ⌜ Ready (policyBy policy (now slots) (now kept)) (beside [] (now marks)) (now slots) (now values) (listsOf (now fates) (now whens) (now bys)) ⌝ }
-    ensures { λ r. ⌜ outcome r (listsAfter fates whens bys) ≡ ran (now (slots .entry)) (now (values .entry)) (courseBy policy (now (kept .entry)) (now (marks .entry)) (now (slots .entry)) (now (values .entry))) ⌝ }
+    ensures { λ r. ⌜ outcome r (listsAfter fates whens bys) ≡ ran (was slots) (was values) (courseBy policy (was kept) (was marks) (was slots) (was values)) ⌝ }
 {
     let most_held = run(slots, values, policy, kept, marks, fates, whens, bys);
     RunAnswer::Ran(totals(values, fates, most_held))
@@ -58,7 +58,7 @@ fn finish_rule(
 ) -> RunAnswer
     requires { ⌜ Ready (byRule (ruleOf room rule)) [] (now slots) (now values) (listsOf (now fates) (now whens) (now bys)) ⌝ }
     requires { ⌜ 1 ≤ room ⌝ }
-    ensures { λ r. ⌜ outcome r (listsAfter fates whens bys) ≡ ran (now (slots .entry)) (now (values .entry)) (runBy (ruleOf room rule) (arrivals (now (slots .entry)) (now (values .entry)))) ⌝ }
+    ensures { λ r. ⌜ outcome r (listsAfter fates whens bys) ≡ ran (was slots) (was values) (runBy (ruleOf room rule) (arrivals (was slots) (was values))) ⌝ }
 {
     let most = run_rule(slots, values, room, rule, fates, whens, bys);
     RunAnswer::Ran(totals(values, fates, most))
@@ -73,7 +73,7 @@ pub fn greedy(
     whens: &mut [u32],
     bys: &mut [u32],
 ) -> RunAnswer
-    ensures { λ r. ⌜ outcome r (listsAfter fates whens bys) ≡ greedyCall (now (slots .entry)) (now (values .entry)) room (listsBefore fates whens bys) ⌝ }
+    ensures { λ r. ⌜ outcome r (listsAfter fates whens bys) ≡ greedyCall (was slots) (was values) room (listsBefore fates whens bys) ⌝ }
 {
     match trace::plain(slots, values, room, fates, whens, bys) {
         Checked::Refused(refusal) => RunAnswer::Refused(refusal),
@@ -91,7 +91,7 @@ pub fn pg(
     whens: &mut [u32],
     bys: &mut [u32],
 ) -> RunAnswer
-    ensures { λ r. ⌜ outcome r (listsAfter fates whens bys) ≡ pgCall (now (slots .entry)) (now (values .entry)) room beta (listsBefore fates whens bys) ⌝ }
+    ensures { λ r. ⌜ outcome r (listsAfter fates whens bys) ≡ pgCall (was slots) (was values) room beta (listsBefore fates whens bys) ⌝ }
 {
     match trace::pg(slots, values, room, beta, fates, whens, bys) {
         Checked::Refused(refusal) => RunAnswer::Refused(refusal),
@@ -110,7 +110,7 @@ fn finish_mf(
     bys: &mut [u32],
 ) -> RunAnswer
     requires { ⌜ Ready (mfPolicy room marking (now slots)) (unmarked (length (now slots))) (now slots) (now values) (listsOf (now fates) (now whens) (now bys)) ⌝ }
-    ensures { λ r. ⌜ outcome r (listsAfter fates whens bys) ≡ ran (now (slots .entry)) (now (values .entry)) (mfRun room marking (now (slots .entry)) (now (values .entry))) ⌝ }
+    ensures { λ r. ⌜ outcome r (listsAfter fates whens bys) ≡ ran (was slots) (was values) (mfRun room marking (was slots) (was values)) ⌝ }
 {
     let mut marks = [0u32; Record::PACKETS];
     let n = slots.len();
@@ -137,7 +137,7 @@ pub fn mf(
     whens: &mut [u32],
     bys: &mut [u32],
 ) -> RunAnswer
-    ensures { λ r. ⌜ outcome r (listsAfter fates whens bys) ≡ mfCall (now (slots .entry)) (now (values .entry)) room marking (listsBefore fates whens bys) ⌝ }
+    ensures { λ r. ⌜ outcome r (listsAfter fates whens bys) ≡ mfCall (was slots) (was values) room marking (listsBefore fates whens bys) ⌝ }
 {
     match trace::mf(slots, values, room, marking, fates, whens, bys) {
         Checked::Refused(refusal) => RunAnswer::Refused(refusal),
@@ -155,7 +155,7 @@ fn finish_plan(
     bys: &mut [u32],
 ) -> RunAnswer
     requires { ⌜ clear ≡ plainRefusal (now slots) (now values) room (listsOf (now fates) (now whens) (now bys)) ⌝ }
-    ensures { λ r. ⌜ outcome r (listsAfter fates whens bys) ≡ ran (now (slots .entry)) (now (values .entry)) (planRun room (arrivals (now (slots .entry)) (now (values .entry)))) ⌝ }
+    ensures { λ r. ⌜ outcome r (listsAfter fates whens bys) ≡ ran (was slots) (was values) (planRun room (arrivals (was slots) (was values))) ⌝ }
 {
     let mut kept = [0u8; Record::PACKETS];
     let n = slots.len();
@@ -182,7 +182,7 @@ pub fn plan(
     whens: &mut [u32],
     bys: &mut [u32],
 ) -> RunAnswer
-    ensures { λ r. ⌜ outcome r (listsAfter fates whens bys) ≡ planCall (now (slots .entry)) (now (values .entry)) room (listsBefore fates whens bys) ⌝ }
+    ensures { λ r. ⌜ outcome r (listsAfter fates whens bys) ≡ planCall (was slots) (was values) room (listsBefore fates whens bys) ⌝ }
 {
     let tested = trace::plain(slots, values, room, fates, whens, bys);
     match tested {

@@ -1,14 +1,14 @@
-// The policies whose queue is a window, each as a value, and what a slot brings under each: the ends of slots, and an arrival.
+// The policies whose queue is a window, each as a value, and what a slot brings under each.
 ghost use mathlib.Core.Path.{_≡_};
 ghost use Prim.Native.Nat.{_-_, _<_};
 ghost use lib.Dec.{eqb};
 ghost use lib.ListN.{length};
 ghost use Rattle.model.specs.Policies.Plan.{keptOf};
+ghost use Rattle.model.specs.Lent.{was};
 ghost use Rattle.steps.specs.Window.{Within};
-ghost use Rattle.steps.specs.Step.{arrival, arriving};
-ghost use Rattle.steps.specs.Lent.{movedFrom, movedTo};
+ghost use Rattle.steps.specs.Step.{arrival};
 ghost use Rattle.flush.specs.Flush.{mfFrom, mfTo};
-ghost use Rattle.runs.specs.Policy.{endsBy, ruleBy, Does, DoesQueue};
+ghost use Rattle.runs.specs.Policy.{endsBy, turnBy, Does};
 use entry::place_of;
 use model::Marking;
 use model::Packet;
@@ -26,7 +26,7 @@ pub enum Policy {
 
 // Whether the plan keeps a packet.
 fn is_kept(kept: &[u8], number: PacketNumber) -> bool
-    ensures { λ r. ⌜ r ≡ eqb (keptOf (now (kept .entry)) number) 1 ⌝ }
+    ensures { λ r. ⌜ r ≡ eqb (keptOf (was kept) number) 1 ⌝ }
 {
     let place = place_of(number);
     if kept.len() <= place {
@@ -50,7 +50,7 @@ pub fn end_slots(
     until: Slot,
 ) -> Window
     requires { ⌜ Within w (now numbers) (now values) ⌝ }
-    ensures { λ r. ⌜ Does (endsBy policy (now (slots .entry)) from until) (mfFrom w numbers values marks fates whens bys) (mfTo r numbers values marks fates whens bys) ⌝ }
+    ensures { λ r. ⌜ Does (endsBy policy (was slots) from until) (mfFrom w numbers values marks fates whens bys) (mfTo r numbers values marks fates whens bys) ⌝ }
 {
     match policy {
         Policy::Marking(room, marking) => flush::end_slots(
@@ -71,32 +71,50 @@ pub fn end_slots(
     }
 }
 
-// The arrival of a packet in a slot.
-pub fn arrive(
+// One packet of a trace: the ends of the slots before its own, then its arrival. It does not go by `end_slots`: each function here has one caller, and so is
+// put in line.
+pub fn take(
     numbers: &mut [u32],
     values: &mut [u32],
+    slots: &[u32],
     kept: &[u8],
+    marks: &mut [u32],
     fates: &mut [u32],
     whens: &mut [u32],
     bys: &mut [u32],
     policy: Policy,
     w: Window,
+    last: Slot,
     slot: Slot,
     p: Packet,
 ) -> Window
     requires { ⌜ Within w (now numbers) (now values) ⌝ }
     requires { ⌜ w .tail - w .head < length (now values) ⌝ }
-    ensures { λ r. ⌜ DoesQueue (arriving (ruleBy policy (now (kept .entry))) (arrival slot p)) (movedFrom w numbers values fates whens bys) (movedTo r numbers values fates whens bys) ⌝ }
+    ensures { λ r. ⌜ Does (turnBy policy (was slots) (was kept) last (arrival slot p)) (mfFrom w numbers values marks fates whens bys) (mfTo r numbers values marks fates whens bys) ⌝ }
 {
     match policy {
-        Policy::Marking(room, _) => {
+        Policy::Marking(room, marking) => {
+            let left = flush::end_slots(
+                numbers,
+                values,
+                slots,
+                marks,
+                fates,
+                whens,
+                bys,
+                w,
+                room,
+                marking,
+                last,
+                slot,
+            );
             moves::arrive(
                 numbers,
                 values,
                 fates,
                 whens,
                 bys,
-                w,
+                left,
                 room,
                 Rule::Greedy,
                 slot,
@@ -104,8 +122,9 @@ pub fn arrive(
             )
         }
         Policy::Kept => {
+            let left = moves::send_until(numbers, values, fates, whens, bys, w, last, slot);
             let keep = is_kept(kept, p.number);
-            moves::hold_or_reject(numbers, values, fates, whens, bys, w, keep, slot, p)
+            moves::hold_or_reject(numbers, values, fates, whens, bys, left, keep, slot, p)
         }
     }
 }

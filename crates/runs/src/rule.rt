@@ -7,7 +7,7 @@ ghost use lib.ListN.{length};
 ghost use Rattle.steps.specs.Window.{Within};
 ghost use Rattle.steps.specs.Step.{arrival, turning};
 ghost use Rattle.steps.specs.Lent.{movedFrom, movedTo};
-ghost use Rattle.model.specs.Lent.{listsBefore, listsAfter};
+ghost use Rattle.model.specs.Lent.{was, listsBefore, listsAfter};
 ghost use Rattle.steps.specs.Run.{Runnable, Ran};
 ghost use Rattle.runs.specs.Policy.{DoesQueue};
 use model::Packet;
@@ -69,7 +69,7 @@ pub fn run_rule(
 ) -> u32
     requires { ⌜ Runnable (byRule (ruleOf room rule)) [] (now slots) (now values) ⌝ }
     requires { ⌜ 1 ≤ room ⌝ }
-    ensures { λ r. ⌜ Ran (byRule (ruleOf room rule)) [] (now (slots .entry)) (now (values .entry)) (listsBefore fates whens bys) (listsAfter fates whens bys) r ⌝ }
+    ensures { λ r. ⌜ Ran (byRule (ruleOf room rule)) [] (was slots) (was values) (listsBefore fates whens bys) (listsAfter fates whens bys) r ⌝ }
 {
     let mut numbers = [0u32; PLACES];
     let mut held = [0u32; PLACES];

@@ -1,8 +1,7 @@
 -- A window of two lent lists, to the last entry, and what each move leaves of it and of the record's lists.
 use Prim.Native.Nat.{ℕ, _+_, _-_, _<_}
 use mathlib.Core.Path.{_≡_}
-use denote.Ref.{now}
-use mathlib.Core.Bool.{cond}
+use mathlib.Core.Bool.{Bool, cond}
 use mathlib.Core.List.{List, [], _∷_, _++_, map}
 use lib.ListN.{length}
 use lib.Seq.{sets}
@@ -11,7 +10,7 @@ use Rattle.model.specs.declared.Packet.{Packet}
 use Rattle.model.specs.declared.Slot.{Slot}
 use Rattle.model.specs.Packets.{Arrival, valuesOf, numbersOf}
 use Rattle.model.specs.Record.{Lists, entered}
-use Rattle.model.specs.Lent.{LentList, listsBefore, listsAfter}
+use Rattle.model.specs.Lent.{LentList, was, left, listsBefore, listsAfter}
 use Rattle.model.specs.Policies.Greedy.{without}
 use Rattle.model.specs.Course.{Decision, held, rejected, losing, Decided, Step, entriesOf}
 use Rattle.steps.specs.declared.Window.{Window}
@@ -30,10 +29,14 @@ lent w numbers values = record { window = w; numbers = numbers; values = values 
 
 -- a window and its two lists before a call, and after it
 abbrev pub lentBefore : Window → LentList → LentList → Lent
-lentBefore w numbers values = lent w (now (numbers .entry)) (now (values .entry))
+lentBefore w numbers values = lent w (was numbers) (was values)
 
 abbrev pub lentAfter : Window → LentList → LentList → Lent
-lentAfter w numbers values = lent w (now (numbers .exit)) (now (values .exit))
+lentAfter w numbers values = lent w (left numbers) (left values)
+
+-- the window lies within its two lists as they were
+abbrev pub liesBefore : Window → LentList → LentList → Bool
+liesBefore w numbers values = liesWithin w (was numbers) (was values)
 
 -- the packets of the window, oldest first
 abbrev pub queueIn : Lent → List Packet
