@@ -1,3 +1,4 @@
+-- Three writes, one in each list, at the place of one number.
 use borrow.Author.Needs.{needs}
 use Rattle.entry.proofs.enter.Statement.{statement}
 use Rattle.entry.proofs.enter.Tie as tie

@@ -1,3 +1,4 @@
+-- A place outside the list is not written, and then the list is as it was.
 use mathlib.Core.Path.{sym}
 use lib.Seq.{set-out}
 use borrow.Author.Needs.{needs}

@@ -1,3 +1,4 @@
+-- Each arm of the match is the choice under its rule.
 use mathlib.Core.Path.{_∙_, sym, ap}
 use Rattle.queue.specs.declared.Rule.{Rule}
 use Rattle.queue.specs.Choose.{choose, ofChoice}

@@ -1,3 +1,4 @@
+-- The test of the room decides between the two cases of the definition.
 use mathlib.Core.Path.{_∙_}
 use native.Mathlib.Omega.{arith}
 use Rattle.queue.proofs.Choose.{greedy-holds, greedy-overflows}

@@ -1,3 +1,4 @@
+-- The invariant: the lowest so far and the lowest of the rest are together the lowest of all. The places left are the measure.
 use Prim.Native.Nat.{min, _≤_, _-_}
 use mathlib.Core.Path.{_≡_}
 use native.Mathlib.Omega.{arith}

@@ -1,3 +1,4 @@
+-- The invariant: no place from i on has the value. The search goes down, so i is the measure.
 use Prim.Native.Nat.{_≤_, _-_}
 use native.Mathlib.Omega.{arith}
 use lib.ListN.{length}

@@ -1,3 +1,4 @@
+-- An arrival of at most the lowest held value is the loser itself; above it, the newest of the lowest is.
 use native.Mathlib.Omega.{arith}
 use Rattle.queue.proofs.Choose.{overflow-rejects, overflow-pushes}
 use borrow.Author.Needs.{needs}

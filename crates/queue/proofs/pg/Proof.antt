@@ -1,3 +1,4 @@
+-- Where even the lowest value is not preempted none is, so the search is made only where it finds one.
 use native.Mathlib.Omega.{arith}
 use Prim.Native.Nat.{ℕ}
 use mathlib.Core.Path.{_∙_, sym, ap}

@@ -1,3 +1,4 @@
+-- The invariant: no packet before place i qualifies, so the first that does is to be found from there on. The places left are the measure.
 use Prim.Native.Nat.{_+_, _*_, _≤_, _-_}
 use mathlib.Core.Path.{_≡_}
 use native.Mathlib.Omega.{arith}

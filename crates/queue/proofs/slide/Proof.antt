@@ -1,3 +1,4 @@
+-- The invariant: the first i entries are moved, all others are as before. Each turn moves one more, so those left are the measure.
 use Prim.Native.Nat.{ℕ, _≤_, _-_}
 use mathlib.Core.Path.{_≡_, refl, sym, ap, _∙_}
 use native.Mathlib.Omega.{arith}

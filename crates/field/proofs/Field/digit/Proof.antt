@@ -1,3 +1,4 @@
+-- A number of at most 6 digits is below a million, so one digit more fits in 32 bits.
 use Rattle.field.specs.Reading.{digitTaken}
 use mathlib.Core.Path.{refl}
 use borrow.Author.Tests.{lt-ltb, le-ltb, le-leb, lt-leb}

@@ -1,3 +1,4 @@
+-- By cases of the stage: an open quote or a bad field holds nothing.
 use Rattle.field.proofs.Fielding.{kind-by}
 use mathlib.Core.Path.{refl}
 use borrow.Author.Needs.{needs}

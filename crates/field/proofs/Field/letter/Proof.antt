@@ -1,3 +1,4 @@
+-- A letter is taken only where it is the next one of the name, and no digit came before it.
 use Rattle.field.specs.Reading.{letterTaken}
 use mathlib.Core.Path.{refl}
 use borrow.Author.Tests.{lt-ltb, le-ltb, le-leb, lt-leb, eq-eqb, ne-eqb}

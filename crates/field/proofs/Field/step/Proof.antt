@@ -1,3 +1,4 @@
+-- By cases of the stage: a quote opens or closes, and every other byte is taken as what the field holds.
 use Rattle.field.proofs.Fielding.{field-by}
 use borrow.Author.Tests.{eq-eqb, ne-eqb}
 use borrow.Author.Needs.{needs}

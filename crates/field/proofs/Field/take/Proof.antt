@@ -1,3 +1,4 @@
+-- A byte is a digit or not; each case has its own definition.
 use Rattle.field.specs.Reading.{taken}
 use borrow.Author.Tests.{le-leb, lt-leb}
 use Rattle.model.specs.Limits.{within}

@@ -1,3 +1,4 @@
+-- Some digits and no letters are a number; all letters of the name and no digits are the name.
 use Rattle.field.specs.Reading.{wholeKind}
 use mathlib.Core.Path.{refl}
 use borrow.Author.Tests.{le-leb, lt-leb, eq-eqb, ne-eqb}

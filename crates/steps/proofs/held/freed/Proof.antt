@@ -1,3 +1,4 @@
+-- Where the window has come to the end of its lists it moves to their start, and then a place behind it is free.
 use native.Mathlib.Omega.{arith}
 use Rattle.steps.proofs.Placing.{open-here, open-start}
 use borrow.Author.Needs.{needs}

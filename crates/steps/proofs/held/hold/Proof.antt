@@ -1,3 +1,4 @@
+-- The packet is written behind the window, at the place that was made free.
 use Rattle.steps.specs.Window.{windowOf}
 use Rattle.steps.specs.Lent.{lent, openPlace}
 use Rattle.steps.proofs.Placing.{placed-behind}

@@ -1,3 +1,4 @@
+-- The packets behind the place move down by one, and the window ends one place earlier.
 use Rattle.steps.proofs.Placing.{placed-without}
 use borrow.Author.Needs.{needs}
 use Rattle.steps.proofs.held.lose.Statement.{statement}

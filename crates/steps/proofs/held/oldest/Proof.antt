@@ -1,3 +1,4 @@
+-- The window is empty or its first packet is the oldest.
 use mathlib.Core.Path.{refl}
 use native.Mathlib.Omega.{arith}
 use Rattle.steps.proofs.Windows.{window-cons, window-none}

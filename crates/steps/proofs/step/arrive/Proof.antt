@@ -1,3 +1,4 @@
+-- The choice made on the values of the window is the decision of the rule on its queue; each case leaves what the decision says.
 use native.Mathlib.Omega.{arith}
 use mathlib.Core.Path.{sym, _∙_}
 use Rattle.queue.specs.declared.Choice.the-variants.{Hold, Reject}

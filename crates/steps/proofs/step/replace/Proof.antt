@@ -1,3 +1,4 @@
+-- The loss leaves a free place behind the window, so the arrival is held where the lost packet's successors have closed up.
 use Rattle.steps.specs.Lent.{lent}
 use Rattle.steps.proofs.Deciding.{lost-holds, lost-free, replaced-in}
 use borrow.Author.Needs.{needs}

@@ -1,3 +1,4 @@
+-- The invariant: the sendings still to come complete what all of them do. Each turn ends one slot, so the slots left are the measure.
 use Prim.Native.Nat.{_-_}
 use mathlib.Core.Path.{_≡_, refl, sym, _∙_}
 use mathlib.Core.Logic.{⊎-elim}
