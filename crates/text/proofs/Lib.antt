@@ -3,5 +3,4 @@ pub mod Parsing
 pub mod Lining
 pub mod Telling
 pub mod Whole
-pub mod Writing
 pub mod Saying

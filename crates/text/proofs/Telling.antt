@@ -22,7 +22,7 @@ use Rattle.signs.specs.Signs.{cr, lf}
 use Rattle.text.specs.Lines.{unlessEmpty, linesOf}
 use Rattle.text.specs.Fields.{Line, bad, header, packet, lineOf, valueName}
 use Rattle.text.specs.Input.{Input, malformed, trace, withPacket, packetsFrom, inputBy, inputOf}
-use Rattle.text.specs.Output.{refusalText}
+use Rattle.output.specs.Output.{refusalText}
 use Rattle.text.specs.Bench.{outputBy, benchOutput}
 use Rattle.text.specs.Says.{keptSay, saysBy, saysOf}
 use Rattle.text.specs.declared.field.Stage.{Stage}

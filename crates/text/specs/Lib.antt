@@ -2,9 +2,7 @@
 pub mod Lines
 pub mod Fields
 pub mod Input
-pub mod Output
 pub mod Bench
 pub mod Reading
 pub mod Says
 pub mod Whole
-pub mod Writing

@@ -10,7 +10,7 @@ use Rattle.model.specs.declared.Cause.the-variants.{Packets, Text}
 use Rattle.model.specs.Limits.{recordLimits}
 use Rattle.model.specs.Numbers.{causeNumber}
 use Rattle.text.specs.Input.{trace}
-use Rattle.text.specs.Output.{refusalText}
+use Rattle.output.specs.Output.{refusalText}
 use Rattle.text.specs.Bench.{outputBy}
 use Rattle.text.specs.declared.field.Stage.{Stage}
 use Rattle.text.specs.declared.field.Stage.the-variants.{Fresh, Bare, Open, Closed, Bad}

@@ -2,6 +2,5 @@
 // and lists of any length, and states all that it answers and leaves. A parser's fields are private: outside, one comes from `Parser::new`, and of those
 // the theorem `whole` says that the answer is the output that the definitions give the text.
 mod field;
-mod output;
 pub mod parser;
 mod run;

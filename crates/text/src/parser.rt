@@ -6,11 +6,11 @@ ghost use Rattle.text.specs.Reading.{startParser, withField, spoiled as 
 use crate::field::Field;
 use crate::field::Kind;
 use crate::field::Stage;
-use crate::output::put_refusal;
 use crate::run::run;
 use entry::put;
 use model::Cause;
 use model::Record;
+use output::put_refusal;
 use signs::COMMA;
 use signs::CR;
 use signs::LF;

@@ -3,9 +3,9 @@ use Prim.Native.Nat.{ℕ}
 use mathlib.Core.Path.{refl, sym, ap, _∙_}
 use native.Mathlib.Omega.{arith}
 use lib.Seq.{length-take-le}
-use Rattle.text.specs.Output.{refusalText}
+use Rattle.output.specs.Output.{refusalText}
 use Rattle.text.specs.Reading.{state}
-use Rattle.text.proofs.Writing.{wrote-same}
+use Rattle.output.proofs.Writing.{wrote-same}
 use Rattle.text.proofs.Saying.{answered-none, answered, short-slots, short-values, short-out, says-bad, says-many, says-trace}
 use borrow.Author.Needs.{needs}
 use Rattle.text.proofs.parser.Parser.answer.Statement.{statement}
@@ -50,7 +50,7 @@ returns-4 c =
     let st = state (a .self) (a .slots .now) (a .values .now) in
     let said = says-bad st (a .out .now) (c .before .before .before .before .before .before .before .before .before .before .if1 .left) (c .before .before .before .before .before .before .before .before .before .if2 .left) (c .before .before .before .before .before .before .before .before .if3 .left) (c .before .before .before .before .before .enum-told .given .1) in
     answered st (a .out .now) _ _ _ said
-    (wrote-same (ap (λ (n : ℕ). refusalText n (a .self .line)) (c .before .before .before .number .ensures)) refl (c .before .before .put-refusal .ensures))
+    (wrote-same (ap (λ (n : ℕ). refusalText n (a .self .line)) (c .before .before .before .number .ensures)) refl (c .before .before .put-refusal .ensures .fits (omega arith)))
 
 number-requires-2 : tie.Need-number-requires-2
 number-requires-2 c κs = search needs
@@ -70,7 +70,7 @@ returns-5 c =
     let st = state (a .self) (a .slots .now) (a .values .now) in
     let said = says-many st (a .out .now) (c .before .before .before .before .before .before .before .before .before .before .if1 .left) (c .before .before .before .before .before .before .before .before .before .if2 .left) (c .before .before .before .before .before .before .before .before .if3 .left) (λ e. ⊎-elim (λ t. omega arith) (⊎-elim (λ t. omega arith) (⊎-elim (λ t. omega arith) (λ t. omega arith))) (rw e at (c .before .before .before .before .before .before .match .keys2))) (c .before .before .before .before .before .if4 .taken) in
     answered st (a .out .now) _ _ _ said
-    (wrote-same (ap (λ (n : ℕ). refusalText n 0) (c .before .before .before .number2 .ensures)) refl (c .before .before .put-refusal2 .ensures))
+    (wrote-same (ap (λ (n : ℕ). refusalText n 0) (c .before .before .before .number2 .ensures)) refl (c .before .before .put-refusal2 .ensures .fits (omega arith)))
 
 slice-aggregate-run : tie.Need-slice-aggregate-run
 slice-aggregate-run c = sym (length-take-le _ (c .before .before .before .before .before .before .before .before .before .before .args .slots .now) (omega arith))

@@ -2,9 +2,9 @@ use Prim.Native.Nat.{_+_, _-_, _*_, _≤_}
 use native.Mathlib.Omega.{arith}
 use borrow.Author.Needs.{needs}
 use lib.ListN.{length}
-use Rattle.text.proofs.Writing.{Left, left-all, left-none, rowsLeft, rows-again, rows-done, row-fits, row-long}
-use Rattle.text.proofs.output.put_rows.Statement.{statement}
-use Rattle.text.proofs.output.put_rows.Tie as tie
+use Rattle.output.proofs.Writing.{Left, left-all, left-none, rowsLeft, rows-again, rows-done, row-fits, row-long}
+use Rattle.output.proofs.write.write_rows.Statement.{statement}
+use Rattle.output.proofs.write.write_rows.Tie as tie
 
 abbrev Inv-loop : tie.InvT-loop
 Inv-loop out₀ at slots values fates whens bys end₀ i₀ out end i =
@@ -68,11 +68,11 @@ shared-slice-read-t32 c = omega (arith, c .before .before .before .before .befor
 cast-t33 : tie.Need-cast-t33 Inv-loop μ-loop
 cast-t33 c = omega (arith, c .shared-slice-known10 .given (c .before .before .before .before .before .before .loop .i))
 
-slice-aggregate-put-line : tie.Need-slice-aggregate-put-line Inv-loop μ-loop
-slice-aggregate-put-line c = search needs
+slice-aggregate-write-line : tie.Need-slice-aggregate-write-line Inv-loop μ-loop
+slice-aggregate-write-line c = search needs
 
-put-line-requires : tie.Need-put-line-requires Inv-loop μ-loop
-put-line-requires c κs = omega arith
+write-line-requires : tie.Need-write-line-requires Inv-loop μ-loop
+write-line-requires c κs = omega arith
 
 add-i : tie.Need-add-i Inv-loop μ-loop
 add-i c = search needs
@@ -85,8 +85,8 @@ loop-again c =
     let loop = c .before .before .before .before .before .before .before .before .before .before .before in
     let a = c .before .before .before .before .before .before .before .before .before .before .before .before .before .before .before .before .before .before .args in (
       omega arith,
-      omega (arith, row-fits (a .slots .now) (a .values .now) (a .fates .now) (a .whens .now) (a .bys .now) (c .before .before .before .before .before .before .before .before .before .before .before .before .before .before .before .before .before .before .pre .0) (a .at) (a .out .now) (loop .loop .end) _ (loop .loop .i) (omega arith) (loop .loop .inv .2) _ _ (c .before .before .put-line .ensures), row-long (a .slots .now) (a .values .now) (a .fates .now) (a .whens .now) (a .bys .now) (c .before .before .before .before .before .before .before .before .before .before .before .before .before .before .before .before .before .before .pre .0) (a .at) (a .out .now) (loop .loop .end) _ (loop .loop .i) (omega arith) (loop .loop .inv .2) _ _ (c .before .before .put-line .ensures)),
-      rows-again (a .slots .now) (a .values .now) (a .fates .now) (a .whens .now) (a .bys .now) (c .before .before .before .before .before .before .before .before .before .before .before .before .before .before .before .before .before .before .pre .0) (a .at) (a .out .now) (loop .loop .end) _ (loop .loop .i) (omega arith) (loop .loop .inv .2) _ _ (c .before .before .put-line .ensures),
+      omega (arith, row-fits (a .slots .now) (a .values .now) (a .fates .now) (a .whens .now) (a .bys .now) (c .before .before .before .before .before .before .before .before .before .before .before .before .before .before .before .before .before .before .pre .0) (a .at) (a .out .now) (loop .loop .end) _ (loop .loop .i) (omega arith) (loop .loop .inv .2) _ _ (c .before .before .write-line .ensures), row-long (a .slots .now) (a .values .now) (a .fates .now) (a .whens .now) (a .bys .now) (c .before .before .before .before .before .before .before .before .before .before .before .before .before .before .before .before .before .before .pre .0) (a .at) (a .out .now) (loop .loop .end) _ (loop .loop .i) (omega arith) (loop .loop .inv .2) _ _ (c .before .before .write-line .ensures)),
+      rows-again (a .slots .now) (a .values .now) (a .fates .now) (a .whens .now) (a .bys .now) (c .before .before .before .before .before .before .before .before .before .before .before .before .before .before .before .before .before .before .pre .0) (a .at) (a .out .now) (loop .loop .end) _ (loop .loop .i) (omega arith) (loop .loop .inv .2) _ _ (c .before .before .write-line .ensures),
     )
 
 same-length : tie.Need-same-length Inv-loop μ-loop
@@ -98,8 +98,8 @@ returns c =
     let a = c .before .before .before .before .before .before .before .before .args in
     left-none (a .at) _ (a .out .now) _ _ _ (rows-done (a .slots .now) (a .values .now) (a .fates .now) (a .whens .now) (a .bys .now) (c .before .before .before .before .before .before .before .before .pre .0) (loop .loop .i) (c .loop-test .left)) (omega arith) (loop .loop .inv .2)
 
-pub put-rows-spec : {M : Type 1} → statement M
-put-rows-spec =
+pub write-rows-spec : {M : Type 1} → statement M
+write-rows-spec =
     tie.close
     (tie.spec
     Inv-loop
@@ -121,8 +121,8 @@ put-rows-spec =
     mul-t30
     shared-slice-read-t32
     cast-t33
-    slice-aggregate-put-line
-    put-line-requires
+    slice-aggregate-write-line
+    write-line-requires
     add-i
     loop-less
     loop-again

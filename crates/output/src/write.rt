@@ -1,10 +1,10 @@
-// Writing the output: bytes, numbers, lines of numbers, and a record's rows, each from a place of a lent list on. The caller has seen that there is room.
+// Writing into a list that is long enough: the caller has seen that it is.
 ghost use Prim.Native.Nat.{_+_, _*_, _≤_};
 ghost use lib.ListN.{length};
 ghost use Rattle.model.specs.Packets.{arrivals};
 ghost use Rattle.model.specs.Record.{rowsOf};
-ghost use Rattle.text.specs.Output.{decimal, lineWith, rowLines, refusalText};
-ghost use Rattle.text.specs.Writing.{Wrote, SameLengths};
+ghost use Rattle.output.specs.Output.{decimal, lineWith, rowLines};
+ghost use Rattle.output.specs.Writing.{Wrote, SameLengths};
 use signs::COMMA;
 use signs::ZERO;
 
@@ -14,10 +14,8 @@ const DIGITS: usize = 20;
 // The line's end.
 const END: [u8; 2] = *b"\r\n";
 
-const REFUSAL: [u8; 15] = *b"refusal,place\r\n";
-
 // Writes some bytes, and answers the place behind them.
-pub fn put(out: &mut [u8], at: usize, text: &[u8]) -> usize
+pub fn write_bytes(out: &mut [u8], at: usize, text: &[u8]) -> usize
     requires { ⌜ at + length (now text) ≤ length (now out) ⌝ }
     ensures { λ r. ⌜ Wrote at (now (text .entry)) (now (out .entry)) r (now (out .exit)) ⌝ }
 {
@@ -30,7 +28,7 @@ pub fn put(out: &mut [u8], at: usize, text: &[u8]) -> usize
 }
 
 // Writes a number in decimal: the digits from the last on, and then all of them.
-fn put_number(out: &mut [u8], at: usize, number: u64) -> usize
+pub fn write_number(out: &mut [u8], at: usize, number: u64) -> usize
     requires { ⌜ at + 20 ≤ length (now out) ⌝ }
     ensures { λ r. ⌜ Wrote at (decimal number) (now (out .entry)) r (now (out .exit)) ⌝ }
 {
@@ -41,42 +39,33 @@ fn put_number(out: &mut [u8], at: usize, number: u64) -> usize
         i -= 1;
         digits[i] = ZERO + (left % 10) as u8;
         if left < 10 {
-            return put(out, at, &digits[i..]);
+            return write_bytes(out, at, &digits[i..]);
         }
         left /= 10;
     }
-    put(out, at, &digits)
+    write_bytes(out, at, &digits)
 }
 
 // Writes a line of numbers, with a comma between two.
-pub fn put_line(out: &mut [u8], at: usize, numbers: &[u64]) -> usize
+pub fn write_line(out: &mut [u8], at: usize, numbers: &[u64]) -> usize
     requires { ⌜ at + 21 * length (now numbers) + 2 ≤ length (now out) ⌝ }
     ensures { λ r. ⌜ Wrote at (lineWith (now (numbers .entry))) (now (out .entry)) r (now (out .exit)) ⌝ }
 {
     let mut end = at;
     let mut i = 0;
     while i < numbers.len() {
-        end = put_number(out, end, numbers[i]);
+        end = write_number(out, end, numbers[i]);
         i += 1;
         if i < numbers.len() {
             out[end] = COMMA;
             end += 1;
         }
     }
-    put(out, end, &END)
-}
-
-// Writes a refusal.
-pub fn put_refusal(out: &mut [u8], number: u64, place: u64) -> usize
-    requires { ⌜ 59 ≤ length (now out) ⌝ }
-    ensures { λ r. ⌜ Wrote 0 (refusalText number place) (now (out .entry)) r (now (out .exit)) ⌝ }
-{
-    let at = put(out, 0, &REFUSAL);
-    put_line(out, at, &[number, place])
+    write_bytes(out, end, &END)
 }
 
 // Writes a record's rows.
-pub fn put_rows(
+pub fn write_rows(
     out: &mut [u8],
     at: usize,
     slots: &[u32],
@@ -100,7 +89,7 @@ pub fn put_rows(
             whens[i] as u64,
             bys[i] as u64,
         ];
-        end = put_line(out, end, &row);
+        end = write_line(out, end, &row);
         i += 1;
     }
     end

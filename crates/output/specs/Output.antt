@@ -1,4 +1,4 @@
--- What the program writes: CSV with CRLF after each line.
+-- What our programs write: CSV with CRLF after each line.
 use Prim.Native.Nat.{ℕ, zero, suc, _+_, _/_, _%_}
 use mathlib.Core.Bool.{cond}
 use mathlib.Core.List.{List, [], _∷_, _++_}

@@ -12,9 +12,9 @@ use borrow.Author.Tests.{lt-ltb, le-ltb}
 use Rattle.laws.proofs.Cases.{cond-cases}
 use Rattle.model.specs.Packets.{arrivalsFrom}
 use Rattle.model.specs.Record.{rowsOf}
-use Rattle.text.specs.Output.{digitsFrom, decimal, lineWith, rowLines}
+use Rattle.output.specs.Output.{digitsFrom, decimal, lineWith, rowLines}
 use Rattle.signs.specs.Signs.{cr, lf, comma}
-use Rattle.text.specs.Writing.{Wrote, SameLengths}
+use Rattle.output.specs.Writing.{Wrote, SameLengths}
 
 sets-append : (out : List ℕ) (at : ℕ) (first more : List ℕ) → sets out at (first ++ more) ≡ sets (sets out at first) (at + length first) more
 sets-append out at [] more = ap (λ (n : ℕ). sets out n more) (sym (add-zero at))

@@ -2,9 +2,9 @@ use Prim.Native.Nat.{_+_, _-_, _≤_}
 use native.Mathlib.Omega.{arith}
 use borrow.Author.Needs.{needs}
 use lib.ListN.{length, drop, drop-of-length-le}
-use Rattle.text.proofs.Writing.{Left, left-none, put-start, put-turn}
-use Rattle.text.proofs.output.put.Statement.{statement}
-use Rattle.text.proofs.output.put.Tie as tie
+use Rattle.output.proofs.Writing.{Left, left-none, put-start, put-turn}
+use Rattle.output.proofs.write.write_bytes.Statement.{statement}
+use Rattle.output.proofs.write.write_bytes.Tie as tie
 
 abbrev Inv-loop : tie.InvT-loop
 Inv-loop out₀ at text i₀ out i =
@@ -51,8 +51,8 @@ returns c =
     let a = loop .before .args in
     left-none (a .at) (a .text .now) (a .out .now) _ _ _ (drop-of-length-le (a .text .now) (c .loop-test .left)) (omega (arith, loop .loop .inv .1 .long)) (loop .loop .inv .1)
 
-pub put-spec : {M : Type 1} → statement M
-put-spec =
+pub write-bytes-spec : {M : Type 1} → statement M
+write-bytes-spec =
     tie.close
     (tie.spec
     Inv-loop
