@@ -10,9 +10,10 @@ use lib.Seq.{length-sets}
 use borrow.Author.Tests.{eq-eqb, ne-eqb}
 use Rattle.model.specs.Packets.{arrivals}
 use Rattle.model.specs.Record.{Lists, rows}
+use Rattle.trace.specs.Checked.{lengthsEqual}
 use Rattle.output.specs.Output.{rowLines}
 use Rattle.output.proofs.Writing.{wrote-same, wrote-both}
-use Rattle.output.specs.Writing.{Wrote, Put, SameLengths, sameLengths, rowsText}
+use Rattle.output.specs.Writing.{Wrote, Put, SameLengths, rowsText}
 
 module _ {need at : ℕ} {text out : List ℕ} where
   pub put-full : length out < at + need → Put need at text out at out
@@ -28,31 +29,28 @@ put-nothing {need} {at} none =
 
 -- lists that differ in length have no rows
 module _ {at : ℕ} {out : List ℕ} (slots values : List ℕ) (lists : Lists) where
-  rows-none : sameLengths slots values lists ≡ false → Put (128 * length slots) at (rowsText slots values lists) out at out
+  rows-none : lengthsEqual slots values lists ≡ false → Put (128 * length slots) at (rowsText slots values lists) out at out
+  unfolding rowsText
   rows-none differ = put-nothing (rw differ refl)
 
   pub values-differ : (length values ≡ length slots → ⊥) → Put (128 * length slots) at (rowsText slots values lists) out at out
-  unfolding sameLengths
   values-differ h = rows-none (rw (ne-eqb _ _ h) refl)
 
   pub fates-differ : length values ≡ length slots → (length (lists .fates) ≡ length slots → ⊥) → Put (128 * length slots) at (rowsText slots values lists) out at out
-  unfolding sameLengths
   fates-differ v h = rows-none (rw (eq-eqb _ _ v, ne-eqb _ _ h) refl)
 
   pub whens-differ : length values ≡ length slots → length (lists .fates) ≡ length slots → (length (lists .whens) ≡ length slots → ⊥)
       → Put (128 * length slots) at (rowsText slots values lists) out at out
-  unfolding sameLengths
   whens-differ v f h = rows-none (rw (eq-eqb _ _ v, eq-eqb _ _ f, ne-eqb _ _ h) refl)
 
   pub bys-differ : length values ≡ length slots → length (lists .fates) ≡ length slots → length (lists .whens) ≡ length slots
       → (length (lists .bys) ≡ length slots → ⊥) → Put (128 * length slots) at (rowsText slots values lists) out at out
-  unfolding sameLengths
   bys-differ v f w h = rows-none (rw (eq-eqb _ _ v, eq-eqb _ _ f, eq-eqb _ _ w, ne-eqb _ _ h) refl)
 
 pub rows-text : {slots values fates whens bys : List ℕ} → SameLengths slots values fates whens bys
     → rowLines (rows (arrivals slots values) (record { fates = fates; whens = whens; bys = bys }))
     ≡ rowsText slots values (record { fates = fates; whens = whens; bys = bys })
-unfolding sameLengths
+unfolding rowsText
 rows-text same = rw (eq-eqb _ _ (same .of-values), eq-eqb _ _ (same .of-fates), eq-eqb _ _ (same .of-whens), eq-eqb _ _ (same .of-bys)) refl
 
 -- lists that keep their lengths

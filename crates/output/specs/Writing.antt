@@ -1,13 +1,13 @@
 -- Some bytes written into a list from a place on: there is room for them, the list has them there, and the place behind them.
 use Prim.Native.Nat.{ℕ, _+_, _≤_, _<_}
 use mathlib.Core.Path.{_≡_}
-use mathlib.Core.Bool.{Bool, cond, _&&_}
+use mathlib.Core.Bool.{cond}
 use mathlib.Core.List.{List, []}
 use lib.ListN.{length}
 use lib.Seq.{sets}
-use lib.Dec.{eqb}
 use Rattle.model.specs.Packets.{arrivals}
 use Rattle.model.specs.Record.{Lists, rows}
+use Rattle.trace.specs.Checked.{lengthsEqual}
 use Rattle.output.specs.Output.{rowLines}
 
 pub record Wrote (at : ℕ) (text out : List ℕ) (next : ℕ) (out′ : List ℕ) : Type 0 where
@@ -27,14 +27,6 @@ pub record Put (need at : ℕ) (text out : List ℕ) (next : ℕ) (out′ : List
   pub fits : at + need ≤ length out → Wrote at text out next out′
   pub full : length out < at + need → (next ≡ at) × (out′ ≡ out)
 
--- the five lists have the same length
-unfoldable pub sameLengths : List ℕ → List ℕ → Lists → Bool
-sameLengths slots values lists =
-    eqb (length values) (length slots)
-    && eqb (length (lists .fates)) (length slots)
-    && eqb (length (lists .whens)) (length slots)
-    && eqb (length (lists .bys)) (length slots)
-
 -- a record's rows; none where two lists differ in length
-abbrev pub rowsText : List ℕ → List ℕ → Lists → List ℕ
-rowsText slots values lists = cond (sameLengths slots values lists) (rowLines (rows (arrivals slots values) lists)) []
+unfoldable pub rowsText : List ℕ → List ℕ → Lists → List ℕ
+rowsText slots values lists = cond (lengthsEqual slots values lists) (rowLines (rows (arrivals slots values) lists)) []

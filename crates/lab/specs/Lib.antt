@@ -1,0 +1,3 @@
+-- The lab program: what it says of a job and its input.
+pub mod Run
+pub mod Answer

@@ -1,0 +1,5 @@
+// The lab program.
+mod policy;
+mod run;
+
+fn main() {}

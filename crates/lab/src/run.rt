@@ -1,0 +1,70 @@
+// `run`: a policy on a trace, and what it says as text in a lent list.
+ghost use mathlib.Core.Path.{_≡_};
+ghost use Prim.Native.Nat.{_≤_};
+ghost use lib.ListN.{length};
+ghost use Rattle.model.specs.Limits.{recordLimits};
+ghost use Rattle.entry.specs.Entry.{lists};
+ghost use Rattle.output.specs.Said.{saidOf};
+ghost use Rattle.output.specs.Writing.{Wrote, SameLengths};
+ghost use Rattle.lab.specs.Run.{callOf, runText};
+ghost use Rattle.lab.specs.Answer.{outputLimit};
+use crate::policy::Policy;
+use crate::policy::call;
+use model::Record;
+use model::RunAnswer;
+use output::put;
+use output::put_refusal;
+use output::put_rows;
+
+const HEADER: [u8; 32] = *b"number,slot,value,fate,when,by\r\n";
+
+// What a policy makes of a trace, with its record in three lent lists.
+fn say(
+    policy: Policy,
+    room: usize,
+    slots: &[u32],
+    values: &[u32],
+    fates: &mut [u32],
+    whens: &mut [u32],
+    bys: &mut [u32],
+    out: &mut [u8],
+) -> usize
+    requires { ⌜ SameLengths (now slots) (now values) (now fates) (now whens) (now bys) ⌝ }
+    requires { ⌜ length (now slots) ≤ recordLimits .packets ⌝ }
+    requires { ⌜ outputLimit ≤ length (now out) ⌝ }
+    ensures { λ r. ⌜ Wrote 0 (saidOf (now (slots .entry)) (now (values .entry)) (callOf policy room (now (slots .entry)) (now (values .entry)) (lists (now (fates .entry)) (now (whens .entry)) (now (bys .entry))))) (now (out .entry)) r (now (out .exit)) ⌝ }
+{
+    match call(policy, room, slots, values, fates, whens, bys) {
+        RunAnswer::Refused(refusal) => {
+            let cause = refusal.cause;
+            put_refusal(out, cause.number() as u64, refusal.place as u64)
+        }
+        RunAnswer::Ran(_) => {
+            let at = put(out, 0, &HEADER);
+            put_rows(out, at, slots, values, fates, whens, bys)
+        }
+    }
+}
+
+// What a policy makes of a trace.
+pub fn run(policy: Policy, room: usize, slots: &[u32], values: &[u32], out: &mut [u8]) -> usize
+    requires { ⌜ length (now values) ≡ length (now slots) ⌝ }
+    requires { ⌜ length (now slots) ≤ recordLimits .packets ⌝ }
+    requires { ⌜ outputLimit ≤ length (now out) ⌝ }
+    ensures { λ r. ⌜ Wrote 0 (runText policy room (now (slots .entry)) (now (values .entry))) (now (out .entry)) r (now (out .exit)) ⌝ }
+{
+    let n = slots.len();
+    let mut fates = [0u32; Record::PACKETS];
+    let mut whens = [0u32; Record::PACKETS];
+    let mut bys = [0u32; Record::PACKETS];
+    say(
+        policy,
+        room,
+        slots,
+        values,
+        &mut fates[..n],
+        &mut whens[..n],
+        &mut bys[..n],
+        out,
+    )
+}
