@@ -1,2 +1,3 @@
 -- Laws on plain values, for the proofs of this crate.
 pub mod Policies
+pub mod Chain

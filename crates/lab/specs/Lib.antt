@@ -1,3 +1,5 @@
 -- The lab program: what it says of a job and its input.
 pub mod Run
+pub mod Line
+pub mod Table
 pub mod Answer

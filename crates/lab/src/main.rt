@@ -1,4 +1,5 @@
 // The lab program.
+mod line;
 mod policy;
 mod run;
 

@@ -40,17 +40,7 @@ pub fn call(
     match policy {
         Policy::Greedy => runs::calls::greedy(slots, values, room, fates, whens, bys),
         Policy::Pg(beta) => runs::calls::pg(slots, values, room, beta, fates, whens, bys),
-        Policy::Mf(m) => mf::calls::mf(
-            slots,
-            values,
-            room,
-            m.lo,
-            m.hi,
-            m.r,
-            fates,
-            whens,
-            bys,
-        ),
+        Policy::Mf(m) => mf::calls::mf(slots, values, room, m.lo, m.hi, m.r, fates, whens, bys),
         Policy::Plan => plan::calls::plan(slots, values, room, fates, whens, bys),
     }
 }

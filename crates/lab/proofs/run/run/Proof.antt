@@ -26,7 +26,7 @@ slice-aggregate-say-3 : tie.Need-slice-aggregate-say-3
 slice-aggregate-say-3 c = sym (zeros-length _ 2048 (c .before .before .before .before .before .before .pre .1 .0))
 
 say-requires : tie.Need-say-requires
-say-requires c κs = 
+say-requires c κs =
     let pre = c .before .before .before .before .before .before .before .pre in
     let long = zeros-length _ 2048 (pre .1 .0) in
     (record { of-values = pre .0; of-fates = long; of-whens = long; of-bys = long }, (pre .1 .0, pre .1 .1))

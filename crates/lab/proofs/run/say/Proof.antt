@@ -53,7 +53,7 @@ same-length-4 : tie.Need-same-length-4
 same-length-4 c = search needs
 
 returns : tie.Need-returns
-returns c = 
+returns c =
     let a = c .before .before .before .before .before .before .before .before .before .before .before .before .before .before .before .before .before .before .before .before .before .before .before .before .before .args in
     let told = c .before .before .before .before .before .before .before .refusal in
     let said = refused-said (a .slots .now) (a .values .now) (c .before .before .before .before .before .before .before .before .before .before .before .before .before .before .before .call .result) _ _ (c .before .before .before .before .before .before .before .before .before .before .before .before .before .before .before .call .ensures) (told .given .0 .0) (told .given .1) in
@@ -72,7 +72,7 @@ same-length-8 : tie.Need-same-length-8
 same-length-8 c = search needs
 
 returns-2 : tie.Need-returns-2
-returns-2 c = 
+returns-2 c =
     let a = c .before .before .before .before .before .before .before .before .before .before .before .before .before .before .before .before .before .before .before .before .before .before .before .before .before .before .before .before .before .before .args in
     let call = c .before .before .before .before .before .before .before .before .before .before .before .before .before .before .before .before .before .before .before .before .call in
     let pre = c .before .before .before .before .before .before .before .before .before .before .before .before .before .before .before .before .before .before .before .before .before .before .before .before .before .before .before .before .before .before .pre in
