@@ -1,3 +1,5 @@
 -- Laws on plain values, for the proofs of this crate.
 pub mod Policies
 pub mod Chain
+pub mod Tables
+pub mod Extremes

@@ -2,4 +2,5 @@
 pub mod Run
 pub mod Line
 pub mod Table
+pub mod Writing
 pub mod Answer

@@ -18,7 +18,7 @@ slice-aggregate-put-numbers : tie.Need-slice-aggregate-put-numbers
 slice-aggregate-put-numbers c = search needs
 
 put-numbers-requires : tie.Need-put-numbers-requires
-put-numbers-requires c κs = 
+put-numbers-requires c κs =
     let seven = ap length (c .before .before .before .before .before .before .counts-of .ensures) in
     let w1 = near-of 65 (c .before .before .before .before .put-name .ensures) (name-length (c .before .before .before .before .before .before .before .before .args .policy)) in
     omega (arith, c .before .before .before .before .before .before .before .before .pre, w1 .short, w1 .wrote .behind, wrote-long (w1 .wrote))
@@ -30,7 +30,7 @@ put-requires : tie.Need-put-requires
 put-requires c κs = search needs
 
 put-part-requires : tie.Need-put-part-requires
-put-part-requires c κs = 
+put-part-requires c κs =
     let seven = ap length (c .before .before .before .before .before .before .before .before .before .before .before .before .before .before .before .counts-of .ensures) in
     let w1 = near-of 65 (c .before .before .before .before .before .before .before .before .before .before .before .before .before .put-name .ensures) (name-length (c .before .before .before .before .before .before .before .before .before .before .before .before .before .before .before .before .before .args .policy)) in
     let w2 = near-wrote w1 147 (c .before .before .before .before .before .before .before .before .put-numbers .ensures) (omega (arith, commas-length (c .before .before .before .before .before .before .before .before .before .before .before .before .before .before .before .counts-of .result))) in
@@ -47,7 +47,7 @@ same-length : tie.Need-same-length
 same-length c = search needs
 
 returns : tie.Need-returns
-returns c = 
+returns c =
     let seven = ap length (c .before .before .before .before .before .before .before .before .before .before .before .before .before .before .before .before .before .before .before .before .before .before .before .counts-of .ensures) in
     let w1 = near-of 65 (c .before .before .before .before .before .before .before .before .before .before .before .before .before .before .before .before .before .before .before .before .before .put-name .ensures) (name-length (c .before .before .before .before .before .before .before .before .before .before .before .before .before .before .before .before .before .before .before .before .before .before .before .before .before .args .policy)) in
     let w2 = near-wrote w1 147 (c .before .before .before .before .before .before .before .before .before .before .before .before .before .before .before .before .put-numbers .ensures) (omega (arith, commas-length (c .before .before .before .before .before .before .before .before .before .before .before .before .before .before .before .before .before .before .before .before .before .before .before .counts-of .result))) in

@@ -44,7 +44,7 @@ loop-less : tie.Need-loop-less Inv-loop μ-loop
 loop-less c = search needs
 
 loop-again : tie.Need-loop-again Inv-loop μ-loop
-loop-again c = 
+loop-again c =
     let near = commas-near (c .before .before .before .before .before .before .before .before .before .args .at) (c .before .before .before .before .before .before .before .before .before .args .numbers .now) (c .before .before .before .before .before .before .before .before .before .args .out .now) (c .before .before .before .before .before .before .loop .end) _ (c .before .before .before .before .before .before .loop .i) (c .before .before .before .before .before .before .loop .inv .2) (omega arith) (omega arith) _ _ (c .before .before .put-number .ensures) in
     let long = commas-long (c .before .before .before .before .before .before .before .before .before .args .at) (c .before .before .before .before .before .before .before .before .before .args .numbers .now) (c .before .before .before .before .before .before .before .before .before .args .out .now) (c .before .before .before .before .before .before .loop .end) _ (c .before .before .before .before .before .before .loop .i) (c .before .before .before .before .before .before .loop .inv .2) (omega arith) (omega arith) _ _ (c .before .before .put-number .ensures) in
     (omega arith, omega arith, commas-turn (c .before .before .before .before .before .before .before .before .before .args .at) (c .before .before .before .before .before .before .before .before .before .args .numbers .now) (c .before .before .before .before .before .before .before .before .before .args .out .now) (c .before .before .before .before .before .before .loop .end) _ (c .before .before .before .before .before .before .loop .i) (c .before .before .before .before .before .before .loop .inv .2) (omega arith) (omega arith) _ _ (c .before .before .put-number .ensures))

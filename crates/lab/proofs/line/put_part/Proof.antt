@@ -56,7 +56,7 @@ same-length-2 : tie.Need-same-length-2
 same-length-2 c = search needs
 
 returns-2 : tie.Need-returns-2
-returns-2 c = 
+returns-2 c =
     let one = near (c .before .before .before .before .before .before .before .put-number .ensures) (omega arith) (decimal-length _) in
     let two = near-more one (c .before .before .put2 .ensures) (omega arith) (omega arith) in
     wrote-same (part-some (c .before .before .before .before .before .before .before .before .before .before .before .args .value) (c .before .before .before .before .before .before .before .before .before .before .before .args .plan) (c .before .before .before .before .before .before .before .before .before .if1 .left)) refl (two .wrote)
