@@ -2,4 +2,6 @@
 pub mod Policies
 pub mod Chain
 pub mod Tables
+pub mod Audits
+pub mod Wording
 pub mod Extremes

@@ -2,5 +2,7 @@
 pub mod Run
 pub mod Line
 pub mod Table
+pub mod Audit
+pub mod Words
 pub mod Writing
 pub mod Answer

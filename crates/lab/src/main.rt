@@ -1,8 +1,10 @@
 // The lab program.
+mod auditing;
 mod line;
 mod policy;
 mod refusal;
 mod run;
 mod table;
+mod words;
 
 fn main() {}

@@ -38,7 +38,7 @@ loop-less : tie.Need-loop-less Inv-loop μ-loop
 loop-less c = search needs
 
 loop-again : tie.Need-loop-again Inv-loop μ-loop
-loop-again c = 
+loop-again c =
     let next : c .if1 .high ≡ max (c .before .before .before .loop .high) (getD (c .before .before .before .before .args .values .now) (c .before .before .before .loop .i) 0) = ⊎-elim (λ w. omega arith) (λ w. omega arith) (c .if1 .came) in
     (omega arith, greatest-turn (c .before .before .before .before .args .values .now) (c .before .before .before .loop .i) (c .before .before .before .loop .high) (c .if1 .high) _ (omega arith) next (c .before .before .before .loop .inv .1))
 

@@ -44,7 +44,7 @@ loop-less : tie.Need-loop-less Inv-loop μ-loop
 loop-less c = search needs
 
 loop-again : tie.Need-loop-again Inv-loop μ-loop
-loop-again c = 
+loop-again c =
     let next : c .if2 .low ≡ min (c .before .before .before .loop .low) (getD (c .before .before .before .before .before .before .args .values .now) (c .before .before .before .loop .i) 0) = ⊎-elim (λ w. omega arith) (λ w. omega arith) (c .if2 .came) in
     (omega arith, lowest-turn (c .before .before .before .before .before .before .args .values .now) (c .before .before .before .loop .i) (c .before .before .before .loop .low) (c .if2 .low) _ (omega arith) next (c .before .before .before .loop .inv .1))
 

@@ -18,7 +18,7 @@ enum-known-next : tie.Need-enum-known-next
 enum-known-next c = search needs
 
 put-betas-requires : tie.Need-put-betas-requires
-put-betas-requires c κs = 
+put-betas-requires c κs =
     let near = lined-near (c .before .before .before .before .before .before .before .before .before .before .before .before .before .args .room) (c .before .before .before .before .before .before .before .before .before .before .before .before .before .args .slots .now) (c .before .before .before .before .before .before .before .before .before .before .before .before .before .args .values .now) (c .before .before .before .before .before .before .before .before .before .before .before .before .before .args .plan) (Greedy ∷ []) _ (c .before .before .before .before .before .before .before .before .before .before .before .before .before .args .at) (c .before .before .before .before .before .before .before .before .before .before .before .before .before .args .out .now) _ (lined-at (linesOf (c .before .before .before .before .before .before .before .before .before .before .before .before .before .args .room) (c .before .before .before .before .before .before .before .before .before .before .before .before .before .args .slots .now) (c .before .before .before .before .before .before .before .before .before .before .before .before .before .args .values .now) (c .before .before .before .before .before .before .before .before .before .before .before .before .before .args .plan) (Greedy ∷ [])) (c .before .before .before .before .before .before .before .before .before .before .before .before .before .args .at) (c .before .before .before .before .before .before .before .before .before .before .before .before .before .args .out .now) _ (c .before .before .next .given .1) (c .before .before .before .before .before .before .put-policy .ensures)) in
     (c .before .before .before .before .before .before .before .before .before .before .before .before .before .pre .0, (c .before .before .before .before .before .before .before .before .before .before .before .before .before .pre .1 .0, omega (arith, c .before .before .before .before .before .before .before .before .before .before .before .before .before .pre .1 .1, c .before .before .before .before .before .before .put-policy .kept .0)))
 

@@ -15,7 +15,7 @@ put-requires : tie.Need-put-requires
 put-requires c κs = search needs
 
 put-compared-requires : tie.Need-put-compared-requires
-put-compared-requires c κs = 
+put-compared-requires c κs =
     let head = c .before .before .before .put .ensures .fits (omega (arith, c .before .before .before .before .before .before .before .before .before .before .before .pre .1 .1 .1)) in
     (c .before .before .before .before .before .before .before .before .before .before .before .pre .0, (c .before .before .before .before .before .before .before .before .before .before .before .pre .1 .0, omega (arith, c .before .before .before .before .before .before .before .before .before .before .before .pre .1 .1 .0, c .before .before .before .before .before .before .before .before .before .before .before .pre .1 .1 .1, head .behind, wrote-long head)))
 
@@ -29,14 +29,14 @@ enum-known-next : tie.Need-enum-known-next
 enum-known-next c = search needs
 
 put-mf-requires : tie.Need-put-mf-requires
-put-mf-requires c κs = 
+put-mf-requires c κs =
     let head = c .before .before .before .before .before .before .before .before .before .before .put .ensures .fits (omega (arith, c .before .before .before .before .before .before .before .before .before .before .before .before .before .before .before .before .before .before .pre .1 .1 .1)) in
     let long = wrote-long head in
     let near = table-near (c .before .before .before .before .before .before .before .before .before .before .before .before .before .before .before .before .before .before .args .room) (c .before .before .before .before .before .before .before .before .before .before .before .before .before .before .before .before .before .before .args .nums .now) (c .before .before .before .before .before .before .before .before .before .before .before .before .before .before .before .before .before .before .args .dens .now) (c .before .before .before .before .before .before .before .before .before .before .before .before .before .before .before .before .before .before .args .slots .now) (c .before .before .before .before .before .before .before .before .before .before .before .before .before .before .before .before .before .before .args .values .now) (c .before .before .before .before .before .before .before .before .before .before .before .before .before .before .before .before .before .before .args .plan) (c .before .before .before .before .before .before .put-compared .result) _ _ _ (c .before .before .next .given .1) (c .before .before .before .before .before .before .put-compared .ensures) in
     (c .before .before .before .before .before .before .before .before .before .before .before .before .before .before .before .before .before .before .pre .0, omega (arith, c .before .before .before .before .before .before .before .before .before .before .before .before .before .before .before .before .before .before .pre .1 .1 .0, c .before .before .before .before .before .before .before .before .before .before .before .before .before .before .before .before .before .before .pre .1 .1 .1, head .behind, c .before .before .before .before .before .before .put-compared .kept .0))
 
 put-line-requires : tie.Need-put-line-requires
-put-line-requires c κs = 
+put-line-requires c κs =
     let head = c .before .before .before .before .before .before .before .before .before .before .before .before .before .before .put .ensures .fits (omega (arith, c .before .before .before .before .before .before .before .before .before .before .before .before .before .before .before .before .before .before .before .before .before .before .pre .1 .1 .1)) in
     let long = wrote-long head in
     let near = table-near (c .before .before .before .before .before .before .before .before .before .before .before .before .before .before .before .before .before .before .before .before .before .before .args .room) (c .before .before .before .before .before .before .before .before .before .before .before .before .before .before .before .before .before .before .before .before .before .before .args .nums .now) (c .before .before .before .before .before .before .before .before .before .before .before .before .before .before .before .before .before .before .before .before .before .before .args .dens .now) (c .before .before .before .before .before .before .before .before .before .before .before .before .before .before .before .before .before .before .before .before .before .before .args .slots .now) (c .before .before .before .before .before .before .before .before .before .before .before .before .before .before .before .before .before .before .before .before .before .before .args .values .now) (c .before .before .before .before .before .before .before .before .before .before .before .before .before .before .before .before .before .before .before .before .before .before .args .plan) (c .before .before .before .before .before .before .before .before .before .before .put-compared .result) _ _ _ (c .before .before .before .before .before .before .next .given .1) (c .before .before .before .before .before .before .before .before .before .before .put-compared .ensures) in
@@ -52,7 +52,7 @@ same-length-2 : tie.Need-same-length-2
 same-length-2 c = search needs
 
 returns-2 : tie.Need-returns-2
-returns-2 c = 
+returns-2 c =
     let head = c .before .before .before .before .before .before .before .before .before .before .before .before .before .before .before .before .before .put .ensures .fits (omega (arith, c .before .before .before .before .before .before .before .before .before .before .before .before .before .before .before .before .before .before .before .before .before .before .before .before .before .pre .1 .1 .1)) in
     begins (table-written (c .before .before .before .before .before .before .before .before .before .before .before .before .before .before .before .before .before .before .before .before .before .before .before .before .before .args .room) (c .before .before .before .before .before .before .before .before .before .before .before .before .before .before .before .before .before .before .before .before .before .before .before .before .before .args .nums .now) (c .before .before .before .before .before .before .before .before .before .before .before .before .before .before .before .before .before .before .before .before .before .before .before .before .before .args .dens .now) (c .before .before .before .before .before .before .before .before .before .before .before .before .before .before .before .before .before .before .before .before .before .before .before .before .before .args .slots .now) (c .before .before .before .before .before .before .before .before .before .before .before .before .before .before .before .before .before .before .before .before .before .before .before .before .before .args .values .now) (c .before .before .before .before .before .before .before .before .before .before .before .before .before .before .before .before .before .before .before .before .before .before .before .before .before .args .plan) (c .before .before .before .before .before .before .before .before .before .before .before .before .before .put-compared .result) _ _ _ _ (c .before .before .before .before .before .before .before .before .before .next .given .1) head (c .before .before .before .before .before .before .before .before .before .before .before .before .before .put-compared .ensures) (c .before .before .before .before .before .before .put-mf .ensures) (c .before .before .put-line .ensures))
 
