@@ -4,4 +4,6 @@ pub mod Chain
 pub mod Tables
 pub mod Audits
 pub mod Wording
+pub mod Asking
+pub mod Answering
 pub mod Extremes

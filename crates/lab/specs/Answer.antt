@@ -1,7 +1,43 @@
--- The answer to a job.
+-- The answer to a job, from the columns of its input.
 use Prim.Native.Nat.{ℕ, _+_, _*_}
+use mathlib.Core.Bool.{cond}
+use mathlib.Core.List.{List, []}
+use lib.ListN.{length, take, drop}
+use lib.Dec.{ltb}
+use Rattle.model.specs.declared.Cause.the-variants.{Packets, Text}
 use Rattle.model.specs.Limits.{recordLimits}
+use Rattle.model.specs.Numbers.{causeNumber}
+use Rattle.entry.specs.Entry.{lists}
+use Rattle.output.specs.Output.{refusalText}
+use Rattle.lab.specs.declared.jobs.Job.{Job}
+use Rattle.lab.specs.declared.jobs.Job.the-variants.{Run, Table, Audit, None}
+use Rattle.lab.specs.Run.{runText}
+use Rattle.lab.specs.Table.{tableText}
+use Rattle.lab.specs.Audit.{auditText}
 
 -- no answer is longer than the header of a record, of 32 bytes, and 128 bytes a packet
 abbrev pub outputLimit : ℕ
 outputLimit = 32 + 128 * recordLimits .packets
+
+-- a trace is the columns slot and value; a record is number, slot, value, fate, when and by
+abbrev pub answerText : Job → (nums dens : List ℕ) → (column : ℕ → List ℕ) → List ℕ
+answerText (Run policy room) nums dens column = runText policy room (column 0) (column 1)
+answerText (Table room) nums dens column = tableText room nums dens (column 0) (column 1)
+answerText (Audit room) nums dens column =
+    auditText room (column 0) (column 1) (column 2) (lists (column 3) (column 4) (column 5))
+answerText None nums dens column = []
+
+-- a column of a table that has a place for each packet in each column
+abbrev pub columnOf : List ℕ → ℕ → ℕ → List ℕ
+columnOf table count j = take count (drop (j * recordLimits .packets) table)
+
+-- a text as its columns, or its first bad line
+pub data Input : Type 0 where
+  malformed : ℕ → Input
+  columns : (ℕ → List ℕ) → Input
+
+-- malformed text is 21 at its line and more than 2,048 rows are 2, before everything else
+unfoldable pub labOutput : Job → (nums dens : List ℕ) → Input → List ℕ
+labOutput job nums dens (malformed line) = refusalText (causeNumber Text) line
+labOutput job nums dens (columns column) =
+    cond (ltb (recordLimits .packets) (length (column 0))) (refusalText (causeNumber Packets) 0) (answerText job nums dens column)

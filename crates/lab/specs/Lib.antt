@@ -4,5 +4,6 @@ pub mod Line
 pub mod Table
 pub mod Audit
 pub mod Words
+pub mod Jobs
 pub mod Writing
 pub mod Answer

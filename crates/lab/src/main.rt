@@ -1,5 +1,8 @@
 // The lab program.
+mod answer;
+mod arguments;
 mod auditing;
+mod jobs;
 mod line;
 mod policy;
 mod refusal;
