@@ -6,4 +6,5 @@ pub mod Audits
 pub mod Wording
 pub mod Asking
 pub mod Answering
+pub mod Telling
 pub mod Extremes

@@ -1,9 +1,7 @@
 -- The answer to a job, from the columns of its input.
 use Prim.Native.Nat.{ℕ, _+_, _*_}
-use mathlib.Core.Bool.{cond}
 use mathlib.Core.List.{List, []}
-use lib.ListN.{length, take, drop}
-use lib.Dec.{ltb}
+use lib.ListN.{take, drop}
 use Rattle.model.specs.declared.Cause.the-variants.{Packets, Text}
 use Rattle.model.specs.Limits.{recordLimits}
 use Rattle.model.specs.Numbers.{causeNumber}
@@ -31,13 +29,23 @@ answerText None nums dens column = []
 abbrev pub columnOf : List ℕ → ℕ → ℕ → List ℕ
 columnOf table count j = take count (drop (j * recordLimits .packets) table)
 
--- a text as its columns, or its first bad line
+-- a text as its columns; or its first bad line; or that it has more rows than a trace has packets; or nothing, where reading failed
 pub data Input : Type 0 where
   malformed : ℕ → Input
+  tooMany : Input
   columns : (ℕ → List ℕ) → Input
+  nothing : Input
 
 -- malformed text is 21 at its line and more than 2,048 rows are 2, before everything else
+abbrev pub inputText : Job → (nums dens : List ℕ) → Input → List ℕ
+inputText job nums dens (malformed line) = refusalText (causeNumber Text) line
+inputText job nums dens tooMany = refusalText (causeNumber Packets) 0
+inputText job nums dens (columns column) = answerText job nums dens column
+inputText job nums dens nothing = []
+
+-- the program: arguments that ask for nothing get nothing, whatever the input is
 unfoldable pub labOutput : Job → (nums dens : List ℕ) → Input → List ℕ
-labOutput job nums dens (malformed line) = refusalText (causeNumber Text) line
-labOutput job nums dens (columns column) =
-    cond (ltb (recordLimits .packets) (length (column 0))) (refusalText (causeNumber Packets) 0) (answerText job nums dens column)
+labOutput (Run policy room) nums dens input = inputText (Run policy room) nums dens input
+labOutput (Table room) nums dens input = inputText (Table room) nums dens input
+labOutput (Audit room) nums dens input = inputText (Audit room) nums dens input
+labOutput None nums dens input = []

@@ -7,3 +7,4 @@ pub mod Words
 pub mod Jobs
 pub mod Writing
 pub mod Answer
+pub mod Told
