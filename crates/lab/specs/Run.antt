@@ -24,6 +24,10 @@ outcomeOf policy room slots values = callOf policy room slots values (blank (len
 abbrev pub replyOf : Policy → ℕ → List ℕ → List ℕ → Reply
 replyOf policy room slots values = outcomeOf policy room slots values .reply
 
+-- what is said of a call, the record's lists being these before
+abbrev pub calledText : Policy → ℕ → List ℕ → List ℕ → Lists → List ℕ
+calledText policy room slots values lists = saidOf slots values (callOf policy room slots values lists)
+
 -- `run POLICY ROOM`
 abbrev pub runText : Policy → ℕ → List ℕ → List ℕ → List ℕ
-runText policy room slots values = saidOf slots values (outcomeOf policy room slots values)
+runText policy room slots values = calledText policy room slots values (blank (length slots))

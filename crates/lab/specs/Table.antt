@@ -37,6 +37,10 @@ betasOf [] dens = []
 betasOf (num ∷ nums) [] = []
 betasOf (num ∷ nums) (den ∷ dens) = Pg (record { num = num; den = den }) ∷ betasOf nums dens
 
+-- the lines whose refusal refuses the table
+abbrev pub comparedOf : ℕ → List ℕ → List ℕ → ℕ → List ℕ → List ℕ → Lines
+comparedOf room slots values plan nums dens = linesOf room slots values plan (Greedy ∷ betasOf nums dens)
+
 unfoldable pub lowestFrom : ℕ → List ℕ → ℕ
 lowestFrom low [] = low
 lowestFrom low (v ∷ values) = lowestFrom (min low v) values
@@ -77,7 +81,7 @@ tableBy (written lines) last = tableHeader ++ (lines ++ last)
 unfoldable pub tableWith : ℕ → List ℕ → List ℕ → List ℕ → List ℕ → Totals → List ℕ
 tableWith room nums dens slots values plan =
     let best = plan .sent .value in
-    tableBy (linesOf room slots values best (Greedy ∷ betasOf nums dens)) (mfLine room slots values best ++ lineOf Plan plan best)
+    tableBy (comparedOf room slots values best nums dens) (mfLine room slots values best ++ lineOf Plan plan best)
 
 -- `table ROOM BETA..`
 unfoldable pub tableText : ℕ → List ℕ → List ℕ → List ℕ → List ℕ → List ℕ

@@ -4,7 +4,7 @@ ghost use Prim.Native.Nat.{_≤_};
 ghost use lib.ListN.{length};
 ghost use Rattle.model.specs.Limits.{recordLimits};
 ghost use Rattle.lab.specs.Answer.{outputLimit, columnOf, answerText};
-ghost use Rattle.lab.specs.Writing.{Begins};
+ghost use Rattle.lab.specs.Writing.{BeginsIn};
 use crate::auditing::check;
 use crate::jobs::Job;
 use crate::run::run;
@@ -35,7 +35,7 @@ pub fn answer(
     requires { ⌜ length (now rows) ≡ 12288 ⌝ }
     requires { ⌜ count ≤ recordLimits .packets ⌝ }
     requires { ⌜ outputLimit ≤ length (now out) ⌝ }
-    ensures { λ r. ⌜ Begins r (answerText job (now (nums .entry)) (now (dens .entry)) (columnOf (now (rows .entry)) count)) (now (out .exit)) ⌝ }
+    ensures { λ r. ⌜ BeginsIn out r (answerText job (now (nums .entry)) (now (dens .entry)) (columnOf (now (rows .entry)) count)) ⌝ }
 {
     let second = SECOND + count;
     let third = THIRD + count;

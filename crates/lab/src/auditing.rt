@@ -4,8 +4,8 @@ ghost use Prim.Native.Nat.{_≤_};
 ghost use lib.ListN.{length};
 ghost use Rattle.model.specs.Limits.{recordLimits};
 ghost use Rattle.model.specs.Calls.{auditCall};
-ghost use Rattle.entry.specs.Entry.{lists};
-ghost use Rattle.output.specs.Writing.{Wrote};
+ghost use Rattle.steps.specs.Lent.{listsBefore};
+ghost use Rattle.output.specs.Writing.{WroteIn};
 ghost use Rattle.lab.specs.Audit.{misnumberedFrom, verdictText, auditText};
 use crate::line::counts_of;
 use crate::refusal::refuse;
@@ -43,7 +43,7 @@ fn say(
     out: &mut [u8],
 ) -> usize
     requires { ⌜ 209 ≤ length (now out) ⌝ }
-    ensures { λ r. ⌜ Wrote 0 (verdictText (auditCall (now (slots .entry)) (now (values .entry)) room (lists (now (fates .entry)) (now (whens .entry)) (now (bys .entry))))) (now (out .entry)) r (now (out .exit)) ⌝ }
+    ensures { λ r. ⌜ WroteIn out r 0 (verdictText (auditCall (now (slots .entry)) (now (values .entry)) room (listsBefore fates whens bys))) ⌝ }
 {
     match audit::audit(slots, values, room, fates, whens, bys) {
         AuditAnswer::Refused(refusal) => refuse(out, refusal),
@@ -72,7 +72,7 @@ pub fn check(
 ) -> usize
     requires { ⌜ length (now numbers) ≤ recordLimits .packets ⌝ }
     requires { ⌜ 209 ≤ length (now out) ⌝ }
-    ensures { λ r. ⌜ Wrote 0 (auditText room (now (numbers .entry)) (now (slots .entry)) (now (values .entry)) (lists (now (fates .entry)) (now (whens .entry)) (now (bys .entry)))) (now (out .entry)) r (now (out .exit)) ⌝ }
+    ensures { λ r. ⌜ WroteIn out r 0 (auditText room (now (numbers .entry)) (now (slots .entry)) (now (values .entry)) (listsBefore fates whens bys)) ⌝ }
 {
     let line = misnumbered(numbers);
     if line != 0 {

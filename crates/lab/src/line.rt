@@ -2,7 +2,7 @@
 ghost use mathlib.Core.Path.{_≡_};
 ghost use Prim.Native.Nat.{_+_, _*_, _≤_};
 ghost use lib.ListN.{length};
-ghost use Rattle.output.specs.Writing.{Wrote};
+ghost use Rattle.output.specs.Writing.{WroteIn};
 ghost use Rattle.lab.specs.Line.{nameOf, countsOf, behindCommas, partOf, lineOf};
 use crate::policy::Policy;
 use model::Totals;
@@ -14,7 +14,7 @@ use signs::ZERO;
 // Writes a policy's name with its parameters.
 fn put_name(out: &mut [u8], at: usize, policy: Policy) -> usize
     requires { ⌜ at + 65 ≤ length (now out) ⌝ }
-    ensures { λ r. ⌜ Wrote at (nameOf policy) (now (out .entry)) r (now (out .exit)) ⌝ }
+    ensures { λ r. ⌜ WroteIn out r at (nameOf policy) ⌝ }
 {
     match policy {
         Policy::Greedy => put(out, at, b"greedy"),
@@ -39,7 +39,7 @@ fn put_name(out: &mut [u8], at: usize, policy: Policy) -> usize
 // Writes numbers, each behind a comma.
 fn put_numbers(out: &mut [u8], at: usize, numbers: &[u64]) -> usize
     requires { ⌜ at + 21 * length (now numbers) ≤ length (now out) ⌝ }
-    ensures { λ r. ⌜ Wrote at (behindCommas (now (numbers .entry))) (now (out .entry)) r (now (out .exit)) ⌝ }
+    ensures { λ r. ⌜ WroteIn out r at (behindCommas (now (numbers .entry))) ⌝ }
 {
     let mut end = at;
     let mut i = 0;
@@ -54,7 +54,7 @@ fn put_numbers(out: &mut [u8], at: usize, numbers: &[u64]) -> usize
 // Writes a value as a part of the plan's.
 fn put_part(out: &mut [u8], at: usize, value: u32, plan: u32) -> usize
     requires { ⌜ at + 24 ≤ length (now out) ⌝ }
-    ensures { λ r. ⌜ Wrote at (partOf value plan) (now (out .entry)) r (now (out .exit)) ⌝ }
+    ensures { λ r. ⌜ WroteIn out r at (partOf value plan) ⌝ }
 {
     if plan == 0 {
         return put(out, at, b"-");
@@ -88,7 +88,7 @@ pub fn counts_of(t: Totals) -> [u64; 7]
 // Writes the line of a policy whose run has these totals.
 pub fn put_line(out: &mut [u8], at: usize, policy: Policy, t: Totals, plan: u32) -> usize
     requires { ⌜ at + 239 ≤ length (now out) ⌝ }
-    ensures { λ r. ⌜ Wrote at (lineOf policy t plan) (now (out .entry)) r (now (out .exit)) ⌝ }
+    ensures { λ r. ⌜ WroteIn out r at (lineOf policy t plan) ⌝ }
 {
     let counts = counts_of(t);
     let name = put_name(out, at, policy);

@@ -16,7 +16,7 @@ ghost use mathlib.Core.Path.{_≡_};
 ghost use Prim.Native.Nat.{_≤_};
 ghost use lib.ListN.{length};
 ghost use Rattle.lab.specs.Answer.{outputLimit, labOutput};
-ghost use Rattle.lab.specs.Writing.{Begins};
+ghost use Rattle.lab.specs.Writing.{BeginsIn};
 ghost use Rattle.lab.specs.Told.{Few, inputBy, wordsOutput, Told};
 use answer::answer;
 use arguments::Arguments;
@@ -46,7 +46,7 @@ fn say(job: Job, nums: &[u32], dens: &[u32], ended: Ended, rows: &[u32], out: &m
     requires { ⌜ length (now rows) ≡ 12288 ⌝ }
     requires { ⌜ Few ended ⌝ }
     requires { ⌜ outputLimit ≤ length (now out) ⌝ }
-    ensures { λ r. ⌜ Begins r (labOutput job (now (nums .entry)) (now (dens .entry)) (inputBy ended (now (rows .entry)))) (now (out .exit)) ⌝ }
+    ensures { λ r. ⌜ BeginsIn out r (labOutput job (now (nums .entry)) (now (dens .entry)) (inputBy ended (now (rows .entry)))) ⌝ }
 {
     if let Job::None = job {
         return 0;
@@ -73,7 +73,7 @@ fn say_words(
     requires { ⌜ length (now rows) ≡ 12288 ⌝ }
     requires { ⌜ Few ended ⌝ }
     requires { ⌜ outputLimit ≤ length (now out) ⌝ }
-    ensures { λ r. ⌜ Begins r (wordsOutput (now (words .entry)) (now (firsts .entry)) (now (seconds .entry)) (inputBy ended (now (rows .entry)))) (now (out .exit)) ⌝ }
+    ensures { λ r. ⌜ BeginsIn out r (wordsOutput (now (words .entry)) (now (firsts .entry)) (now (seconds .entry)) (inputBy ended (now (rows .entry)))) ⌝ }
 {
     let job = job_from(words, firsts, seconds);
     if firsts.len() < 2 {

@@ -4,7 +4,7 @@ ghost use Prim.Native.Nat.{_≤_};
 ghost use lib.ListN.{length};
 ghost use Rattle.model.specs.Limits.{recordLimits};
 ghost use Rattle.model.specs.Answers.{ofRun};
-ghost use Rattle.entry.specs.Entry.{lists};
+ghost use Rattle.steps.specs.Lent.{listsBefore, listsAfter};
 ghost use Rattle.steps.specs.Calls.{outcome};
 ghost use Rattle.lab.specs.Run.{callOf, replyOf};
 use model::Beta;
@@ -35,7 +35,7 @@ pub fn call(
     whens: &mut [u32],
     bys: &mut [u32],
 ) -> RunAnswer
-    ensures { λ r. ⌜ outcome r (lists (now (fates .exit)) (now (whens .exit)) (now (bys .exit))) ≡ callOf policy room (now (slots .entry)) (now (values .entry)) (lists (now (fates .entry)) (now (whens .entry)) (now (bys .entry))) ⌝ }
+    ensures { λ r. ⌜ outcome r (listsAfter fates whens bys) ≡ callOf policy room (now (slots .entry)) (now (values .entry)) (listsBefore fates whens bys) ⌝ }
 {
     match policy {
         Policy::Greedy => runs::calls::greedy(slots, values, room, fates, whens, bys),

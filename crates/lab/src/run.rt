@@ -3,10 +3,9 @@ ghost use mathlib.Core.Path.{_≡_};
 ghost use Prim.Native.Nat.{_≤_};
 ghost use lib.ListN.{length};
 ghost use Rattle.model.specs.Limits.{recordLimits};
-ghost use Rattle.entry.specs.Entry.{lists};
-ghost use Rattle.output.specs.Said.{saidOf};
-ghost use Rattle.output.specs.Writing.{Wrote, SameLengths};
-ghost use Rattle.lab.specs.Run.{callOf, runText};
+ghost use Rattle.steps.specs.Lent.{listsBefore};
+ghost use Rattle.output.specs.Writing.{WroteIn, SameLengths};
+ghost use Rattle.lab.specs.Run.{calledText, runText};
 ghost use Rattle.lab.specs.Answer.{outputLimit};
 use crate::policy::Policy;
 use crate::policy::call;
@@ -32,7 +31,7 @@ fn say(
     requires { ⌜ SameLengths (now slots) (now values) (now fates) (now whens) (now bys) ⌝ }
     requires { ⌜ length (now slots) ≤ recordLimits .packets ⌝ }
     requires { ⌜ outputLimit ≤ length (now out) ⌝ }
-    ensures { λ r. ⌜ Wrote 0 (saidOf (now (slots .entry)) (now (values .entry)) (callOf policy room (now (slots .entry)) (now (values .entry)) (lists (now (fates .entry)) (now (whens .entry)) (now (bys .entry))))) (now (out .entry)) r (now (out .exit)) ⌝ }
+    ensures { λ r. ⌜ WroteIn out r 0 (calledText policy room (now (slots .entry)) (now (values .entry)) (listsBefore fates whens bys)) ⌝ }
 {
     match call(policy, room, slots, values, fates, whens, bys) {
         RunAnswer::Refused(refusal) => {
@@ -51,7 +50,7 @@ pub fn run(policy: Policy, room: usize, slots: &[u32], values: &[u32], out: &mut
     requires { ⌜ length (now values) ≡ length (now slots) ⌝ }
     requires { ⌜ length (now slots) ≤ recordLimits .packets ⌝ }
     requires { ⌜ outputLimit ≤ length (now out) ⌝ }
-    ensures { λ r. ⌜ Wrote 0 (runText policy room (now (slots .entry)) (now (values .entry))) (now (out .entry)) r (now (out .exit)) ⌝ }
+    ensures { λ r. ⌜ WroteIn out r 0 (runText policy room (now (slots .entry)) (now (values .entry))) ⌝ }
 {
     let n = slots.len();
     let mut fates = [0u32; Record::PACKETS];

@@ -4,10 +4,9 @@ ghost use mathlib.Core.List.{[], _∷_};
 ghost use Prim.Native.Nat.{_+_, _*_, _≤_};
 ghost use lib.ListN.{length};
 ghost use Rattle.model.specs.Limits.{recordLimits};
-ghost use Rattle.output.specs.Writing.{Wrote};
-ghost use Rattle.lab.specs.declared.policy.Policy.the-variants.{Greedy};
-ghost use Rattle.lab.specs.Table.{lowest as lowestOf, greatestFrom, linesOf, betasOf, mfLine, tableWith, tableText};
-ghost use Rattle.lab.specs.Writing.{Begins, LinedAs};
+ghost use Rattle.output.specs.Writing.{WroteIn};
+ghost use Rattle.lab.specs.Table.{lowest as lowestOf, greatestFrom, linesOf, betasOf, comparedOf, mfLine, tableWith, tableText};
+ghost use Rattle.lab.specs.Writing.{BeginsIn, LinedIn};
 ghost use Rattle.lab.specs.Answer.{outputLimit};
 use crate::line::put_line;
 use crate::policy::Marking;
@@ -72,7 +71,7 @@ fn put_policy(
 ) -> Lined
     requires { ⌜ length (now slots) ≤ recordLimits .packets ⌝ }
     requires { ⌜ at + 239 ≤ length (now out) ⌝ }
-    ensures { λ r. ⌜ LinedAs r (linesOf room (now (slots .entry)) (now (values .entry)) plan (policy ∷ [])) at (now (out .entry)) (now (out .exit)) ⌝ }
+    ensures { λ r. ⌜ LinedIn out r at (linesOf room (now (slots .entry)) (now (values .entry)) plan (policy ∷ [])) ⌝ }
 {
     match reply(policy, room, slots, values) {
         RunAnswer::Refused(refusal) => Lined::Refused(refusal),
@@ -94,7 +93,7 @@ fn put_betas(
     requires { ⌜ length (now slots) ≤ recordLimits .packets ⌝ }
     requires { ⌜ length (now dens) ≡ length (now nums) ⌝ }
     requires { ⌜ at + 239 * length (now nums) ≤ length (now out) ⌝ }
-    ensures { λ r. ⌜ LinedAs r (linesOf room (now (slots .entry)) (now (values .entry)) plan (betasOf (now (nums .entry)) (now (dens .entry)))) at (now (out .entry)) (now (out .exit)) ⌝ }
+    ensures { λ r. ⌜ LinedIn out r at (linesOf room (now (slots .entry)) (now (values .entry)) plan (betasOf (now (nums .entry)) (now (dens .entry)))) ⌝ }
 {
     let mut end = at;
     let mut i = 0;
@@ -130,7 +129,7 @@ fn put_compared(
     requires { ⌜ length (now slots) ≤ recordLimits .packets ⌝ }
     requires { ⌜ length (now dens) ≡ length (now nums) ⌝ }
     requires { ⌜ at + 239 + 239 * length (now nums) ≤ length (now out) ⌝ }
-    ensures { λ r. ⌜ LinedAs r (linesOf room (now (slots .entry)) (now (values .entry)) plan (Greedy ∷ betasOf (now (nums .entry)) (now (dens .entry)))) at (now (out .entry)) (now (out .exit)) ⌝ }
+    ensures { λ r. ⌜ LinedIn out r at (comparedOf room (now (slots .entry)) (now (values .entry)) plan (now (nums .entry)) (now (dens .entry))) ⌝ }
 {
     match put_policy(out, at, Policy::Greedy, room, slots, values, plan) {
         Lined::Refused(refusal) => Lined::Refused(refusal),
@@ -142,7 +141,7 @@ fn put_compared(
 fn put_mf(out: &mut [u8], at: usize, room: usize, slots: &[u32], values: &[u32], plan: u32) -> usize
     requires { ⌜ length (now slots) ≤ recordLimits .packets ⌝ }
     requires { ⌜ at + 239 ≤ length (now out) ⌝ }
-    ensures { λ r. ⌜ Wrote at (mfLine room (now (slots .entry)) (now (values .entry)) plan) (now (out .entry)) r (now (out .exit)) ⌝ }
+    ensures { λ r. ⌜ WroteIn out r at (mfLine room (now (slots .entry)) (now (values .entry)) plan) ⌝ }
 {
     let policy = Policy::Mf(Marking {
         lo: lowest(values),
@@ -169,7 +168,7 @@ fn table_with(
     requires { ⌜ length (now dens) ≡ length (now nums) ⌝ }
     requires { ⌜ length (now nums) ≤ 32 ⌝ }
     requires { ⌜ outputLimit ≤ length (now out) ⌝ }
-    ensures { λ r. ⌜ Begins r (tableWith room (now (nums .entry)) (now (dens .entry)) (now (slots .entry)) (now (values .entry)) plan) (now (out .exit)) ⌝ }
+    ensures { λ r. ⌜ BeginsIn out r (tableWith room (now (nums .entry)) (now (dens .entry)) (now (slots .entry)) (now (values .entry)) plan) ⌝ }
 {
     let best = plan.sent.value;
     let at = put(out, 0, &HEADER);
@@ -195,7 +194,7 @@ pub fn table(
     requires { ⌜ length (now dens) ≡ length (now nums) ⌝ }
     requires { ⌜ length (now nums) ≤ 32 ⌝ }
     requires { ⌜ outputLimit ≤ length (now out) ⌝ }
-    ensures { λ r. ⌜ Begins r (tableText room (now (nums .entry)) (now (dens .entry)) (now (slots .entry)) (now (values .entry))) (now (out .exit)) ⌝ }
+    ensures { λ r. ⌜ BeginsIn out r (tableText room (now (nums .entry)) (now (dens .entry)) (now (slots .entry)) (now (values .entry))) ⌝ }
 {
     match reply(Policy::Plan, room, slots, values) {
         RunAnswer::Refused(refusal) => refuse(out, refusal),

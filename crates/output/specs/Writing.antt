@@ -3,11 +3,13 @@ use Prim.Native.Nat.{ℕ, _+_, _≤_, _<_}
 use mathlib.Core.Path.{_≡_}
 use mathlib.Core.Bool.{cond}
 use mathlib.Core.List.{List, []}
+use denote.Ref.{now}
 use lib.ListN.{length}
 use lib.Seq.{sets}
 use Rattle.model.specs.Packets.{arrivals}
 use Rattle.model.specs.Record.{Lists, rows}
 use Rattle.trace.specs.Checked.{lengthsEqual}
+use Rattle.steps.specs.Lent.{LentList}
 use Rattle.output.specs.Output.{rowLines}
 
 pub record Wrote (at : ℕ) (text out : List ℕ) (next : ℕ) (out′ : List ℕ) : Type 0 where
@@ -30,3 +32,10 @@ pub record Put (need at : ℕ) (text out : List ℕ) (next : ℕ) (out′ : List
 -- a record's rows; none where two lists differ in length
 unfoldable pub rowsText : List ℕ → List ℕ → Lists → List ℕ
 rowsText slots values lists = cond (lengthsEqual slots values lists) (rowLines (rows (arrivals slots values) lists)) []
+
+-- the same of a list that is lent to a call
+abbrev pub WroteIn : LentList → ℕ → ℕ → List ℕ → Type 0
+WroteIn out next at text = Wrote at text (now (out .entry)) next (now (out .exit))
+
+abbrev pub PutIn : LentList → ℕ → ℕ → ℕ → List ℕ → Type 0
+PutIn out next need at text = Put need at text (now (out .entry)) next (now (out .exit))

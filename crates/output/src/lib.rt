@@ -2,9 +2,9 @@
 // answers the place behind what it wrote. Where the list has fewer places than the longest text of its kind takes, it writes nothing and answers `at`.
 ghost use Prim.Native.Nat.{_+_, _*_};
 ghost use lib.ListN.{length};
-ghost use Rattle.entry.specs.Entry.{lists};
+ghost use Rattle.steps.specs.Lent.{listsBefore};
 ghost use Rattle.output.specs.Output.{decimal, lineWith, refusalText};
-ghost use Rattle.output.specs.Writing.{Put, rowsText};
+ghost use Rattle.output.specs.Writing.{PutIn, rowsText};
 
 mod write;
 
@@ -28,7 +28,7 @@ const REFUSAL: [u8; 15] = *b"refusal,place\r\n";
 
 // Writes some bytes.
 pub fn put(out: &mut [u8], at: usize, text: &[u8]) -> usize
-    ensures { λ r. ⌜ Put (length (now (text .entry))) at (now (text .entry)) (now (out .entry)) r (now (out .exit)) ⌝ }
+    ensures { λ r. ⌜ PutIn out r (length (now (text .entry))) at (now (text .entry)) ⌝ }
 {
     if out.len() < at {
         return at;
@@ -41,7 +41,7 @@ pub fn put(out: &mut [u8], at: usize, text: &[u8]) -> usize
 
 // Writes a number in decimal.
 pub fn put_number(out: &mut [u8], at: usize, number: u64) -> usize
-    ensures { λ r. ⌜ Put 20 at (decimal number) (now (out .entry)) r (now (out .exit)) ⌝ }
+    ensures { λ r. ⌜ PutIn out r 20 at (decimal number) ⌝ }
 {
     if out.len() < at {
         return at;
@@ -54,7 +54,7 @@ pub fn put_number(out: &mut [u8], at: usize, number: u64) -> usize
 
 // Writes a line of numbers, with a comma between two.
 pub fn put_line(out: &mut [u8], at: usize, numbers: &[u64]) -> usize
-    ensures { λ r. ⌜ Put (21 * length (now (numbers .entry)) + 2) at (lineWith (now (numbers .entry))) (now (out .entry)) r (now (out .exit)) ⌝ }
+    ensures { λ r. ⌜ PutIn out r (21 * length (now (numbers .entry)) + 2) at (lineWith (now (numbers .entry))) ⌝ }
 {
     if out.len() < at {
         return at;
@@ -71,7 +71,7 @@ pub fn put_line(out: &mut [u8], at: usize, numbers: &[u64]) -> usize
 
 // Writes a refusal, from the start of the list on.
 pub fn put_refusal(out: &mut [u8], number: u64, place: u64) -> usize
-    ensures { λ r. ⌜ Put 59 0 (refusalText number place) (now (out .entry)) r (now (out .exit)) ⌝ }
+    ensures { λ r. ⌜ PutIn out r 59 0 (refusalText number place) ⌝ }
 {
     if out.len() < REFUSED {
         return 0;
@@ -90,7 +90,7 @@ pub fn put_rows(
     whens: &[u32],
     bys: &[u32],
 ) -> usize
-    ensures { λ r. ⌜ Put (128 * length (now (slots .entry))) at (rowsText (now (slots .entry)) (now (values .entry)) (lists (now (fates .entry)) (now (whens .entry)) (now (bys .entry)))) (now (out .entry)) r (now (out .exit)) ⌝ }
+    ensures { λ r. ⌜ PutIn out r (128 * length (now (slots .entry))) at (rowsText (now (slots .entry)) (now (values .entry)) (listsBefore fates whens bys)) ⌝ }
 {
     if values.len() != slots.len() {
         return at;

@@ -2,9 +2,10 @@
 ghost use Prim.Native.Nat.{_+_, _*_, _≤_};
 ghost use lib.ListN.{length};
 ghost use Rattle.model.specs.Packets.{arrivals};
-ghost use Rattle.model.specs.Record.{rowsOf};
+ghost use Rattle.model.specs.Record.{rows};
+ghost use Rattle.steps.specs.Lent.{listsBefore};
 ghost use Rattle.output.specs.Output.{decimal, lineWith, rowLines};
-ghost use Rattle.output.specs.Writing.{Wrote, SameLengths};
+ghost use Rattle.output.specs.Writing.{WroteIn, SameLengths};
 use signs::COMMA;
 use signs::ZERO;
 
@@ -17,7 +18,7 @@ const END: [u8; 2] = *b"\r\n";
 // Writes some bytes, and answers the place behind them.
 pub fn write_bytes(out: &mut [u8], at: usize, text: &[u8]) -> usize
     requires { ⌜ at + length (now text) ≤ length (now out) ⌝ }
-    ensures { λ r. ⌜ Wrote at (now (text .entry)) (now (out .entry)) r (now (out .exit)) ⌝ }
+    ensures { λ r. ⌜ WroteIn out r at (now (text .entry)) ⌝ }
 {
     let mut i = 0;
     while i < text.len() {
@@ -30,7 +31,7 @@ pub fn write_bytes(out: &mut [u8], at: usize, text: &[u8]) -> usize
 // Writes a number in decimal: the digits from the last on, and then all of them.
 pub fn write_number(out: &mut [u8], at: usize, number: u64) -> usize
     requires { ⌜ at + 20 ≤ length (now out) ⌝ }
-    ensures { λ r. ⌜ Wrote at (decimal number) (now (out .entry)) r (now (out .exit)) ⌝ }
+    ensures { λ r. ⌜ WroteIn out r at (decimal number) ⌝ }
 {
     let mut digits = [0u8; DIGITS];
     let mut left = number;
@@ -49,7 +50,7 @@ pub fn write_number(out: &mut [u8], at: usize, number: u64) -> usize
 // Writes a line of numbers, with a comma between two.
 pub fn write_line(out: &mut [u8], at: usize, numbers: &[u64]) -> usize
     requires { ⌜ at + 21 * length (now numbers) + 2 ≤ length (now out) ⌝ }
-    ensures { λ r. ⌜ Wrote at (lineWith (now (numbers .entry))) (now (out .entry)) r (now (out .exit)) ⌝ }
+    ensures { λ r. ⌜ WroteIn out r at (lineWith (now (numbers .entry))) ⌝ }
 {
     let mut end = at;
     let mut i = 0;
@@ -76,7 +77,7 @@ pub fn write_rows(
 ) -> usize
     requires { ⌜ SameLengths (now slots) (now values) (now fates) (now whens) (now bys) ⌝ }
     requires { ⌜ at + 128 * length (now slots) ≤ length (now out) ⌝ }
-    ensures { λ r. ⌜ Wrote at (rowLines (rowsOf (arrivals (now (slots .entry)) (now (values .entry))) (now (fates .entry)) (now (whens .entry)) (now (bys .entry)))) (now (out .entry)) r (now (out .exit)) ⌝ }
+    ensures { λ r. ⌜ WroteIn out r at (rowLines (rows (arrivals (now (slots .entry)) (now (values .entry))) (listsBefore fates whens bys))) ⌝ }
 {
     let mut end = at;
     let mut i = 0;
