@@ -1,3 +1,4 @@
+-- `output::write_bytes` meets its contract: the bytes that are left, written into the list as it is now, give what all give, written into it as it was.
 use Prim.Native.Nat.{_+_, _-_, _≤_}
 use native.Mathlib.Omega.{arith}
 use borrow.Author.Needs.{needs}

@@ -1,3 +1,4 @@
+-- `output::write_line` meets its contract: what is left of the line, and 21 places for each number that is left.
 use Prim.Native.Nat.{_+_, _-_, _*_, _≤_}
 use mathlib.Core.Path.{refl, _∙_}
 use native.Mathlib.Omega.{arith}

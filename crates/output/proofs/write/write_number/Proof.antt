@@ -1,3 +1,4 @@
+-- `output::write_number` meets its contract: the digits that are left and those that stand at the end of the local list are the number's.
 use Rattle.output.proofs.Writing.{Digits, digits-none, digits-more, digits-part, digits-all, decimal-length, wrote-same}
 use Prim.Native.Nat.{_≤_}
 use mathlib.Core.Path.{_≡_, refl, ap, _∙_}

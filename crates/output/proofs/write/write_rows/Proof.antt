@@ -1,3 +1,4 @@
+-- `output::write_rows` meets its contract: the rows that are left, and 128 places for each.
 use Prim.Native.Nat.{_+_, _-_, _*_, _≤_}
 use native.Mathlib.Omega.{arith}
 use borrow.Author.Needs.{needs}
