@@ -14,7 +14,7 @@ use Rattle.lab.specs.declared.jobs.Job.the-variants.{Run, Table, Audit, 
 use Rattle.lab.specs.Run.{runText}
 use Rattle.lab.specs.Table.{tableText}
 use Rattle.lab.specs.Audit.{auditText}
-use Rattle.lab.specs.Answer.{answerText, columnOf}
+use Rattle.lab.specs.Answer.{answerText, columnsIn}
 use Rattle.lab.specs.Writing.{Begins}
 use Rattle.lab.proofs.Tables.{begins, begins-same}
 
@@ -31,10 +31,10 @@ module _ (rows : List ℕ) (count : ℕ) where
 
   module _ (job : Job) (nums dens : List ℕ) where
     abbrev answer : List ℕ
-    answer = answerText job nums dens (columnOf rows count)
+    answer = answerText job nums dens (columnsIn rows count)
 
-    answer-is : (job′ : Job) → job ≡ job′ → answerText job′ nums dens (columnOf rows count) ≡ answer
-    answer-is job′ is = ap (λ (j : Job). answerText j nums dens (columnOf rows count)) (sym is)
+    answer-is : (job′ : Job) → job ≡ job′ → answerText job′ nums dens (columnsIn rows count) ≡ answer
+    answer-is job′ is = ap (λ (j : Job). answerText j nums dens (columnsIn rows count)) (sym is)
 
     pub answer-run : {policy : Policy} {room n : ℕ} {out out′ : List ℕ} → job ≡ Run policy room
         → Wrote 0 (runText policy room (take count rows) (part 2048)) out n out′ → Begins n answer out′
@@ -51,8 +51,8 @@ module _ (rows : List ℕ) (count : ℕ) where
         begins (wrote-same (parts room ∙ answer-is (Audit room) is) refl W)
       where
         parts : (room : ℕ) → auditText room (take count rows) (part 2048) (part 4096) (listsOf (part 6144) (part 8192) (part 10240))
-            ≡ answerText (Audit room) nums dens (columnOf rows count)
+            ≡ answerText (Audit room) nums dens (columnsIn rows count)
         parts room = rw (part-is 2048, part-is 4096, part-is 6144, part-is 8192, part-is 10240) refl
 
-  pub answer-none : (job : Job) (nums dens out : List ℕ) → job ≡ None → Begins 0 (answerText job nums dens (columnOf rows count)) out
+  pub answer-none : (job : Job) (nums dens out : List ℕ) → job ≡ None → Begins 0 (answerText job nums dens (columnsIn rows count)) out
   answer-none job nums dens out is = rw is (record { inside = omega arith; is = refl })

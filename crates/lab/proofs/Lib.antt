@@ -7,4 +7,5 @@ pub mod Wording
 pub mod Asking
 pub mod Answering
 pub mod Telling
+pub mod Reading
 pub mod Extremes

@@ -3,7 +3,7 @@ ghost use mathlib.Core.Path.{_≡_};
 ghost use Prim.Native.Nat.{_≤_};
 ghost use lib.ListN.{length};
 ghost use Rattle.model.specs.Limits.{recordLimits};
-ghost use Rattle.lab.specs.Answer.{outputLimit, columnOf, answerText};
+ghost use Rattle.lab.specs.Answer.{outputLimit, columnsIn, answerText};
 ghost use Rattle.lab.specs.Writing.{BeginsIn};
 use crate::auditing::check;
 use crate::jobs::Job;
@@ -35,7 +35,7 @@ pub fn answer(
     requires { ⌜ length (now rows) ≡ 12288 ⌝ }
     requires { ⌜ count ≤ recordLimits .packets ⌝ }
     requires { ⌜ outputLimit ≤ length (now out) ⌝ }
-    ensures { λ r. ⌜ BeginsIn out r (answerText job (now (nums .entry)) (now (dens .entry)) (columnOf (now (rows .entry)) count)) ⌝ }
+    ensures { λ r. ⌜ BeginsIn out r (answerText job (now (nums .entry)) (now (dens .entry)) (columnsIn (now (rows .entry)) count)) ⌝ }
 {
     let second = SECOND + count;
     let third = THIRD + count;

@@ -7,9 +7,6 @@ use borrow.Author.Needs.{needs}
 use Rattle.lab.proofs.say_words.Statement.{statement}
 use Rattle.lab.proofs.say_words.Tie as tie
 
-job-from-requires : tie.Need-job-from-requires
-job-from-requires c κs = search needs
-
 slice-aggregate-say : tie.Need-slice-aggregate-say
 slice-aggregate-say c = search needs
 
@@ -17,13 +14,13 @@ slice-aggregate-say-2 : tie.Need-slice-aggregate-say-2
 slice-aggregate-say-2 c = search needs
 
 say-requires : tie.Need-say-requires
-say-requires c κs = (refl, (omega arith, (c .before .before .before .before .before .before .before .before .before .before .pre .1 .1 .0, (c .before .before .before .before .before .before .before .before .before .before .pre .1 .1 .1 .0, c .before .before .before .before .before .before .before .before .before .before .pre .1 .1 .1 .1))))
+say-requires c κs = (refl, (omega arith, (c .before .before .before .before .before .before .before .before .pre .1 .1 .0, (c .before .before .before .before .before .before .before .before .pre .1 .1 .1 .0, c .before .before .before .before .before .before .before .before .pre .1 .1 .1 .1))))
 
 same-length : tie.Need-same-length
 same-length c = search needs
 
 returns : tie.Need-returns
-returns c = begins-words (c .before .before .before .before .before .before .before .job-from .result) (c .before .before .before .before .before .before .before .before .before .before .before .before .before .args .words .now) (c .before .before .before .before .before .before .before .before .before .before .before .before .before .args .firsts .now) (c .before .before .before .before .before .before .before .before .before .before .before .before .before .args .seconds .now) _ _ _ (c .before .before .before .before .before .before .before .job-from .ensures) (behind-none (c .before .before .before .before .before .before .before .before .before .before .before .before .before .args .firsts .now) (c .before .before .before .before .before .before .if1 .taken)) (behind-none (c .before .before .before .before .before .before .before .before .before .before .before .before .before .args .seconds .now) (omega (arith, c .before .before .before .before .before .before .before .before .before .before .before .before .before .pre .0))) (c .before .before .say .ensures)
+returns c = begins-words (c .before .before .before .before .before .before .before .before .before .before .before .args .job) (c .before .before .before .before .before .before .before .before .before .before .before .args .firsts .now) (c .before .before .before .before .before .before .before .before .before .before .before .args .seconds .now) _ _ (c .before .before .before .before .before .before .before .before .before .before .before .args .read) (c .before .before .before .before .before .before .before .before .before .before .before .args .rows .now) (behind-none (c .before .before .before .before .before .before .before .before .before .before .before .args .firsts .now) (c .before .before .before .before .before .before .if1 .taken)) (behind-none (c .before .before .before .before .before .before .before .before .before .before .before .args .seconds .now) (omega (arith, c .before .before .before .before .before .before .before .before .before .before .before .pre .0, c .before .before .before .before .before .before .if1 .taken))) (c .before .before .say .ensures)
 
 sub-say : tie.Need-sub-say
 sub-say c = search needs
@@ -45,21 +42,20 @@ part-say-end-2 c = search needs
 
 say-requires-2 : tie.Need-say-requires-2
 say-requires-2 c κs =
-    let one = ap length (behind-all (c .before .before .before .before .before .before .before .before .before .before .args .firsts .now)) ∙ length-drop 2 (c .before .before .before .before .before .before .before .before .before .before .args .firsts .now) in
-    let two = ap length (behind-all (c .before .before .before .before .before .before .before .before .before .before .args .seconds .now)) ∙ length-drop 2 (c .before .before .before .before .before .before .before .before .before .before .args .seconds .now) in
-    (omega (arith, one, two, c .before .before .before .before .before .before .before .before .before .before .pre .0), (omega (arith, one, c .before .before .before .before .before .before .before .before .before .before .pre .1 .0), (c .before .before .before .before .before .before .before .before .before .before .pre .1 .1 .0, (c .before .before .before .before .before .before .before .before .before .before .pre .1 .1 .1 .0, c .before .before .before .before .before .before .before .before .before .before .pre .1 .1 .1 .1))))
+    let one = ap length (behind-all (c .before .before .before .before .before .before .before .before .args .firsts .now)) ∙ length-drop 2 (c .before .before .before .before .before .before .before .before .args .firsts .now) in
+    let two = ap length (behind-all (c .before .before .before .before .before .before .before .before .args .seconds .now)) ∙ length-drop 2 (c .before .before .before .before .before .before .before .before .args .seconds .now) in
+    (omega (arith, one, two, c .before .before .before .before .before .before .before .before .pre .0), (omega (arith, one, c .before .before .before .before .before .before .before .before .pre .1 .0), (c .before .before .before .before .before .before .before .before .pre .1 .1 .0, (c .before .before .before .before .before .before .before .before .pre .1 .1 .1 .0, c .before .before .before .before .before .before .before .before .pre .1 .1 .1 .1))))
 
 same-length-2 : tie.Need-same-length-2
 same-length-2 c = search needs
 
 returns-2 : tie.Need-returns-2
-returns-2 c = begins-words (c .before .before .before .before .before .before .before .job-from .result) (c .before .before .before .before .before .before .before .before .before .before .before .before .before .args .words .now) (c .before .before .before .before .before .before .before .before .before .before .before .before .before .args .firsts .now) (c .before .before .before .before .before .before .before .before .before .before .before .before .before .args .seconds .now) _ _ _ (c .before .before .before .before .before .before .before .job-from .ensures) (behind-all (c .before .before .before .before .before .before .before .before .before .before .before .before .before .args .firsts .now)) (behind-all (c .before .before .before .before .before .before .before .before .before .before .before .before .before .args .seconds .now)) (c .before .before .say2 .ensures)
+returns-2 c = begins-words (c .before .before .before .before .before .before .before .before .before .before .before .args .job) (c .before .before .before .before .before .before .before .before .before .before .before .args .firsts .now) (c .before .before .before .before .before .before .before .before .before .before .before .args .seconds .now) _ _ (c .before .before .before .before .before .before .before .before .before .before .before .args .read) (c .before .before .before .before .before .before .before .before .before .before .before .args .rows .now) (behind-all (c .before .before .before .before .before .before .before .before .before .before .before .args .firsts .now)) (behind-all (c .before .before .before .before .before .before .before .before .before .before .before .args .seconds .now)) (c .before .before .say2 .ensures)
 
 pub say-words-spec : {M : Type 1} → statement M
 say-words-spec =
     tie.close
     (tie.spec
-    job-from-requires
     slice-aggregate-say
     slice-aggregate-say-2
     say-requires
