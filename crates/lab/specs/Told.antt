@@ -21,10 +21,11 @@ use Rattle.lab.specs.declared.jobs.Job.{Job}
 use Rattle.lab.specs.Jobs.{jobFrom, kindsOf, firstsOf, secondsOf}
 use Rattle.lab.specs.Answer.{columnsIn, answerText, headerOf, labOutput}
 
--- how reading a job's input ended, in as much of the table as the columns of its header take
+-- the places of the table that the columns of a job's header take: the first
 abbrev pub placesOf : Job → ℕ
 placesOf job = columnsOf (headerOf job) * recordLimits .packets
 
+-- how reading a job's input ended, in these places
 abbrev pub ReadFor : Job → Ended → List ℕ → List ℕ → Type 0
 ReadFor job r table table′ = EndedBy (headerOf job) r (take (placesOf job) table) (take (placesOf job) table′)
 
@@ -46,7 +47,8 @@ wordsOutput words firsts seconds text =
     let job = jobFrom words firsts seconds in
     labOutput job (drop 2 firsts) (drop 2 seconds) (inputOf (headerOf job) text)
 
--- the first n bytes of the list are the output of the words and of the bytes that the reads handed over, however they were cut into pieces
+-- the first n bytes of the list are the output of the words and of the bytes that the reads handed over, however they were cut into pieces. Words that
+-- ask for nothing get nothing, whatever the pieces are: then nothing is read
 pub record Output (words firsts seconds : List ℕ) (n : ℕ) (out : List ℕ) : Type 0 where
   pub inside : n ≤ length out
   pub pieces : List (List ℕ)
