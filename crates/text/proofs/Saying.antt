@@ -7,41 +7,18 @@ use lib.ListN.{length, take, drop, replicate}
 use lib.Seq.{sets-eq}
 use borrow.Author.Tests.{eq-eqb, ne-eqb, le-ltb, lt-ltb}
 use Rattle.model.specs.declared.Cause.the-variants as causes
-use Rattle.model.specs.declared.Refusal.{Refusal}
-use Rattle.model.specs.declared.Totals.{Totals}
-use Rattle.model.specs.declared.RunAnswer.{RunAnswer}
-use Rattle.model.specs.declared.RunAnswer.the-variants.{Ran, Refused}
 use Rattle.model.specs.Limits.{recordLimits}
-use Rattle.model.specs.Packets.{arrivals}
-use Rattle.model.specs.Record.{Lists, rows, listsOf}
+use Rattle.model.specs.Record.{listsOf}
 use Rattle.model.specs.Answers.{causeNumber}
-use Rattle.model.specs.Calls.{Outcome, pgCall}
-use Rattle.steps.specs.Calls.{outcome}
-use Rattle.trace.proofs.Laws.{cause-refuses}
-use Rattle.text.specs.Output.{recordHeader, rowLines, refusalText}
-use Rattle.text.specs.Bench.{benchRoom, benchBeta, saidOf, traceOutput}
+use Rattle.model.specs.Calls.{pgCall}
+use Rattle.output.specs.Output.{refusalText}
+use Rattle.output.specs.Said.{saidOf}
+use Rattle.output.specs.Writing.{Wrote}
+use Rattle.output.proofs.Said.{zeros}
 use Rattle.rows.specs.declared.Rows.{Rows}
 use Rattle.rows.specs.declared.Rows.the-variants.{Read}
-use Rattle.text.specs.Writing.{Wrote}
+use Rattle.text.specs.Bench.{benchRoom, benchBeta, traceOutput}
 use Rattle.text.specs.Says.{saysOf, outputLimit, tableSize, spoken, Answered}
-
-module _ (slots values : List ℕ) (answer : RunAnswer) (after : Lists) (o : Outcome) (is : outcome answer after ≡ o) where
-  pub refused-said : (f : Refusal) → answer ≡ Refused f → refusalText (causeNumber (f .cause)) (f .place) ≡ saidOf slots values o
-  refused-said f e = rw (← is, e, cause-refuses (f .cause)) refl
-
-  pub ran-said : (t : Totals) → answer ≡ Ran t → recordHeader ++ rowLines (rows (arrivals slots values) after) ≡ saidOf slots values o
-  ran-said t e = rw (← is, e) refl
-
--- the start of a list of zeros
-zeros : (n m : ℕ) → n ≤ m → take n (replicate {A = ℕ} m 0) ≡ replicate n 0
-zeros zero m h = refl
-zeros (suc n) zero h = absurd (omega arith)
-zeros (suc n) (suc m) h = ap (λ (l : List ℕ). 0 ∷ l) (zeros n m (omega arith))
-
-pub zeros-length : (n m : ℕ) → n ≤ m → length (take n (replicate {A = ℕ} m 0)) ≡ n
-zeros-length zero m h = refl
-zeros-length (suc n) zero h = absurd (omega arith)
-zeros-length (suc n) (suc m) h = ap suc (zeros-length n m (omega arith))
 
 pub blank-said : (slots values : List ℕ) (m : ℕ) → length slots ≤ m
     → saidOf slots values (pgCall slots values benchRoom benchBeta (listsOf (take (length slots) (replicate m 0)) (take (length slots) (replicate m 0)) (take (length slots) (replicate m 0))))

@@ -21,7 +21,7 @@ use Rattle.rows.specs.declared.Rows.the-variants.{TooMany, Read}
 use Rattle.rows.specs.Input.{Input, malformed, rows, columnOf, inputOf}
 use Rattle.rows.specs.Whole.{Stands}
 use Rattle.rows.specs.Whole as read
-use Rattle.text.specs.Output.{refusalText}
+use Rattle.output.specs.Output.{refusalText}
 use Rattle.text.specs.Bench.{benchHeader, traceOutput, outputBy, benchOutput}
 use Rattle.text.specs.Says.{saysOf, spoken}
 use Rattle.text.specs.Whole.{Whole}

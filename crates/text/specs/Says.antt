@@ -12,7 +12,7 @@ use Rattle.model.specs.Numbers.{causeNumber}
 use Rattle.rows.specs.declared.Rows.{Rows}
 use Rattle.rows.specs.declared.Rows.the-variants.{Malformed, TooMany, Read}
 use Rattle.rows.specs.Table.{columnIn}
-use Rattle.text.specs.Output.{refusalText}
+use Rattle.output.specs.Output.{refusalText}
 use Rattle.text.specs.Bench.{traceOutput}
 
 -- the table's first column has the slots, its second the values

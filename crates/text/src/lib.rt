@@ -1,13 +1,12 @@
 // The answer of the bench program to what was read, in a lent list. Every public function takes lists of any length, and states all that it answers and
 // leaves.
 ghost use Rattle.text.specs.Says.{Answered};
-use crate::output::put_refusal;
 use crate::run::run;
 use model::Cause;
 use model::Record;
+use output::put_refusal;
 use rows::Rows;
 
-mod output;
 mod run;
 
 // The table that is read: a column of slots and a column of values.

@@ -5,15 +5,16 @@ ghost use lib.ListN.{length};
 ghost use Rattle.model.specs.Limits.{recordLimits};
 ghost use Rattle.model.specs.Calls.{pgCall};
 ghost use Rattle.model.specs.Lent.{listsBefore};
-ghost use Rattle.text.specs.Bench.{benchRoom, benchBeta, saidOf, traceOutput};
-ghost use Rattle.text.specs.Writing.{Wrote, SameLengths};
+ghost use Rattle.output.specs.Said.{saidOf};
+ghost use Rattle.output.specs.Writing.{Wrote, SameLengths};
+ghost use Rattle.text.specs.Bench.{benchRoom, benchBeta, traceOutput};
 ghost use Rattle.text.specs.Says.{outputLimit};
-use crate::output::put;
-use crate::output::put_refusal;
-use crate::output::put_rows;
 use model::Beta;
 use model::Record;
 use model::RunAnswer;
+use output::put;
+use output::put_refusal;
+use output::put_rows;
 
 const ROOM: usize = 2;
 

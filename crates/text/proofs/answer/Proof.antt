@@ -4,8 +4,8 @@ use mathlib.Core.Path.{_≡_, refl, sym, ap, _∙_}
 use native.Mathlib.Omega.{arith}
 use lib.ListN.{length, take, drop, length-drop}
 use lib.Seq.{length-take-le}
-use Rattle.text.specs.Output.{refusalText}
-use Rattle.text.proofs.Writing.{wrote-same}
+use Rattle.output.specs.Output.{refusalText}
+use Rattle.output.proofs.Writing.{wrote-same}
 use Rattle.text.proofs.Saying.{answered-none, answered, short-table, short-out, says-by, says-many, says-trace}
 use borrow.Author.Needs.{needs}
 use Rattle.text.proofs.answer.Statement.{statement}
@@ -65,7 +65,7 @@ returns-3 c =
     let a = c .before .before .before .before .before .before .before .before .before .before .before .before .before .args in
     let said = says-many (a .read) (a .table .now) (a .out .now) (c .before .before .before .before .before .before .before .before .before .before .if1 .left) (c .before .before .before .before .before .before .before .before .before .if2 .left) _ (c .before .before .before .before .before .before .before .read2 .given .1) (c .before .before .before .before .before .if3 .taken) in
     answered (a .read) (a .table .now) (a .out .now) _ _ _ said
-    (wrote-same (ap (λ (n : ℕ). refusalText n 0) (c .before .before .before .number3 .ensures)) refl (c .before .before .put-refusal3 .ensures))
+    (wrote-same (ap (λ (n : ℕ). refusalText n 0) (c .before .before .before .number3 .ensures)) refl (c .before .before .put-refusal3 .ensures .fits (omega arith)))
 
 add-end : tie.Need-add-end
 add-end c = search needs
@@ -99,7 +99,7 @@ returns-4 c =
     let a = c .before .before .before .before .before .before .before .before .before .before .before .before .args in
     let said = says-by (a .read) (a .table .now) (a .out .now) (c .before .before .before .before .before .before .before .before .before .if1 .left) (c .before .before .before .before .before .before .before .before .if2 .left) _ (c .before .before .before .before .before .before .read .given .1) in
     answered (a .read) (a .table .now) (a .out .now) _ _ _ said
-    (wrote-same (ap (λ (n : ℕ). refusalText n (c .before .before .before .before .before .before .read .given .0 .0)) (c .before .before .before .number .ensures)) refl (c .before .before .put-refusal .ensures))
+    (wrote-same (ap (λ (n : ℕ). refusalText n (c .before .before .before .before .before .before .read .given .0 .0)) (c .before .before .before .number .ensures)) refl (c .before .before .put-refusal .ensures .fits (omega arith)))
 
 same-length-3 : tie.Need-same-length-3
 same-length-3 c = search needs
@@ -109,7 +109,7 @@ returns-5 c =
     let a = c .before .before .before .before .before .before .before .before .before .before .before .args in
     let said = says-by (a .read) (a .table .now) (a .out .now) (c .before .before .before .before .before .before .before .before .if1 .left) (c .before .before .before .before .before .before .before .if2 .left) _ (c .before .before .before .before .before .enum-told .given .1) in
     answered (a .read) (a .table .now) (a .out .now) _ _ _ said
-    (wrote-same (ap (λ (n : ℕ). refusalText n 0) (c .before .before .before .number2 .ensures)) refl (c .before .before .put-refusal2 .ensures))
+    (wrote-same (ap (λ (n : ℕ). refusalText n 0) (c .before .before .before .number2 .ensures)) refl (c .before .before .put-refusal2 .ensures .fits (omega arith)))
 
 same-length-4 : tie.Need-same-length-4
 same-length-4 c = search needs

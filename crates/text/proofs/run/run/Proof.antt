@@ -1,6 +1,7 @@
 use mathlib.Core.Path.{refl, sym}
-use Rattle.text.proofs.Writing.{wrote-same}
-use Rattle.text.proofs.Saying.{zeros-length, blank-said}
+use Rattle.output.proofs.Writing.{wrote-same}
+use Rattle.output.proofs.Said.{zeros-length}
+use Rattle.text.proofs.Saying.{blank-said}
 use borrow.Author.Needs.{needs}
 use Rattle.text.proofs.run.run.Statement.{statement}
 use Rattle.text.proofs.run.run.Tie as tie

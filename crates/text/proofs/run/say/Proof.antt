@@ -1,8 +1,10 @@
 use Prim.Native.Nat.{ℕ}
 use mathlib.Core.Path.{refl, ap, _∙_}
-use Rattle.text.specs.Output.{refusalText}
-use Rattle.text.proofs.Writing.{wrote-same, wrote-both}
-use Rattle.text.proofs.Saying.{refused-said, ran-said}
+use native.Mathlib.Omega.{arith}
+use Rattle.output.specs.Output.{refusalText}
+use Rattle.output.proofs.Putting.{same-kept, put-rows-behind}
+use Rattle.output.proofs.Writing.{wrote-same}
+use Rattle.output.proofs.Said.{refused-said, ran-said}
 use borrow.Author.Needs.{needs}
 use Rattle.text.proofs.run.say.Statement.{statement}
 use Rattle.text.proofs.run.say.Tie as tie
@@ -51,11 +53,12 @@ same-length-4 c = search needs
 
 returns : tie.Need-returns
 returns c =
-    let a = c .before .before .before .before .before .before .before .before .before .before .before .before .before .before .before .before .before .before .before .before .before .before .before .before .before .args in
+    let start = c .before .before .before .before .before .before .before .before .before .before .before .before .before .before .before .before .before .before .before .before .before .before .before .before .before in
+    let a = start .args in
     let told = c .before .before .before .before .before .before .before .refusal in
     let pg = c .before .before .before .before .before .before .before .before .before .before .before .before .before .before .before .pg in
     let said = refused-said (a .slots .now) (a .values .now) (pg .result) _ _ (pg .ensures) (told .given .0 .0) (told .given .1) in
-    wrote-same (ap (λ (n : ℕ). refusalText n (told .given .0 .0 .place)) (c .before .before .before .before .number .ensures) ∙ said) refl (c .before .before .put-refusal .ensures)
+    wrote-same (ap (λ (n : ℕ). refusalText n (told .given .0 .0 .place)) (c .before .before .before .before .number .ensures) ∙ said) refl (c .before .before .put-refusal .ensures .fits (omega (arith, start .pre .1 .1)))
 
 same-length-5 : tie.Need-same-length-5
 same-length-5 c = search needs
@@ -71,10 +74,12 @@ same-length-8 c = search needs
 
 returns-2 : tie.Need-returns-2
 returns-2 c =
-    let a = c .before .before .before .before .before .before .before .before .before .before .before .before .before .before .before .before .before .before .before .before .before .before .before .before .before .before .before .before .before .before .args in
+    let start = c .before .before .before .before .before .before .before .before .before .before .before .before .before .before .before .before .before .before .before .before .before .before .before .before .before .before .before .before .before .before in
+    let a = start .args in
     let pg = c .before .before .before .before .before .before .before .before .before .before .before .before .before .before .before .before .before .before .before .before .pg in
+    let same = same-kept (start .pre .0) (pg .kept .1 .1 .1 .1 .0) (pg .kept .1 .1 .1 .1 .1 .0) (pg .kept .1 .1 .1 .1 .1 .1 .0) in
     let said = ran-said (a .slots .now) (a .values .now) (pg .result) _ _ (pg .ensures) _ (c .before .before .before .before .before .before .before .before .before .before .before .before .enum-told .given .1) in
-    wrote-same said refl (wrote-both (c .before .before .before .before .before .before .before .before .before .put .ensures) (c .before .before .put-rows .ensures))
+    wrote-same said refl (put-rows-behind refl (omega (arith, start .pre .1 .0, start .pre .1 .1)) (c .before .before .before .before .before .before .before .before .before .put .ensures) (c .before .before .put-rows .ensures) same)
 
 pub say-spec : {M : Type 1} → statement M
 say-spec =

@@ -1,0 +1,11 @@
+-- Laws on plain values, for the proofs of this crate.
+pub mod Policies
+pub mod Chain
+pub mod Tables
+pub mod Audits
+pub mod Wording
+pub mod Asking
+pub mod Answering
+pub mod Telling
+pub mod Reading
+pub mod Extremes

@@ -1,0 +1,10 @@
+-- The lab program: what it says of a job and its input.
+pub mod Run
+pub mod Line
+pub mod Table
+pub mod Audit
+pub mod Words
+pub mod Jobs
+pub mod Writing
+pub mod Answer
+pub mod Told
