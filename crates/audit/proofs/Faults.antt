@@ -15,8 +15,8 @@ use Rattle.model.specs.declared.Slot.{Slot}
 use Rattle.model.specs.Record.{Row, fateNumber}
 use Rattle.model.specs.Rules.{Verdict, Buffer, clear, hasFate, fateOutside, byWrong, whenWrong, notAfterLast, notLater, overRoom, orElse, verdictIf, faultAt}
 use Rattle.laws.proofs.FirstFault.{orElse-zero, verdictIf-zero}
-use Rattle.faults.specs.Faults.{lastOf, notAfter, entryFault}
-use Rattle.faults.proofs.Fates.{when-test}
+use Rattle.audit_faults.specs.Faults.{lastOf, notAfter, rowFault}
+use Rattle.audit_faults.proofs.Fates.{when-test}
 
 -- what `last` says of the older rows
 abbrev pub LastSent : ℕ → List Row → Type 0
@@ -45,7 +45,7 @@ late slots last older r s known w = go (hasFate Sent r) refl
 
 -- 12, 13 and 14 by what is kept, then 15
 pub fault-here : (buffer : Buffer) (last : ℕ) (older : List Row) (r : Row) → fateOutside r ≡ false → 1 ≤ r .slot .0 → LastSent last older
-    → faultAt buffer older r ≡ orElse (entryFault (buffer .slots) last r) (verdictIf (overRoom (buffer .room) older r) 15 (r .number .0))
+    → faultAt buffer older r ≡ orElse (rowFault (buffer .slots) last r) (verdictIf (overRoom (buffer .room) older r) 15 (r .number .0))
 unfolding faultAt orElse
 fault-here buffer last older r inside s known =
     rw inside

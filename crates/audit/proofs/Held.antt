@@ -15,7 +15,7 @@ use Rattle.model.specs.Rules.{byWrong, isHeldAt}
 use Rattle.laws.proofs.Accepted.{NeverDown}
 use Rattle.audit.specs.Sweep.{upTo, leaveOf}
 use Rattle.audit.proofs.Fates.{held-test, leave-test}
-use Rattle.faults.proofs.Fates.{by-test, by-range}
+use Rattle.audit_faults.proofs.Fates.{by-test, by-range}
 use Rattle.audit.proofs.UpTo.{in-front, past-front, front-le}
 
 -- not after `when` is in the front

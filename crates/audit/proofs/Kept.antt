@@ -25,7 +25,7 @@ use Rattle.model.specs.Refusals.{valueOk}
 use Rattle.laws.proofs.Accepted.{Accepted}
 use Rattle.audit.specs.Rows.{rowAt}
 use Rattle.audit.specs.Sweep.{leaveOf}
-use Rattle.faults.specs.Faults.{lastOf, entryFault}
+use Rattle.audit_faults.specs.Faults.{lastOf, rowFault}
 use Rattle.audit.proofs.Counts.{leavesFrom, leavesAt, count-le, split}
 use Rattle.audit.proofs.Held.{held-until, leave-le}
 use Rattle.audit.proofs.Faults.{LastSent, last-more, inside, first-clear, fault-here, fault-outside}
@@ -166,7 +166,7 @@ module _ (slots values : List ℕ) (room : ℕ) (lists : Lists) (i held most : �
   abbrev whole : Verdict
   whole = firstFaultFrom (bufferOf slots room) [] (rest slots values lists 0)
 
-  whole-here : orElse (orElse (entryFault slots (last .0) this) (verdictIf (overRoom room passed this) 15 (suc i)))
+  whole-here : orElse (orElse (rowFault slots (last .0) this) (verdictIf (overRoom room passed this) 15 (suc i)))
       (firstFaultFrom (bufferOf slots room) (older slots values lists (suc i)) (rest slots values lists (suc i)))
       ≡ whole
   whole-here =
@@ -175,7 +175,7 @@ module _ (slots values : List ℕ) (room : ℕ) (lists : Lists) (i held most : �
       (whole-is slots values room lists i held most (last .0) leaving t kept h)
 
   -- 12, 13 or 14 ends the sweep
-  pub turn-fault : (g : Fault) → entryFault slots (last .0) this ≡ record { number = faultNumber g; place = i + 1 }
+  pub turn-fault : (g : Fault) → rowFault slots (last .0) this ≡ record { number = faultNumber g; place = i + 1 }
       → whole ≡ record { number = faultNumber g; place = i + 1 }
   turn-fault g e = sym whole-here ∙ rw (e, stops g (i + 1) _, stops g (i + 1) _)
 
@@ -184,12 +184,12 @@ module _ (slots values : List ℕ) (room : ℕ) (lists : Lists) (i held most : �
   over = rw held-after
 
   -- 15 ends the sweep
-  pub turn-over : entryFault slots (last .0) this ≡ clear → room < heldThen → whole ≡ record { number = 15; place = i + 1 }
+  pub turn-over : rowFault slots (last .0) this ≡ clear → room < heldThen → whole ≡ record { number = 15; place = i + 1 }
   unfolding orElse
   turn-over e l = sym whole-here ∙ rw (e, over, lt-ltb room heldThen l, add-one)
 
   -- else the sweep goes on
-  module _ (clear-here : entryFault slots (last .0) this ≡ clear) (fits : heldThen ≤ room) where
+  module _ (clear-here : rowFault slots (last .0) this ≡ clear) (fits : heldThen ≤ room) where
     by-right : byWrong (length slots) this ≡ false
     by-right = first-clear (byWrong (length slots) this) 11 (suc i) _ clear-here
 

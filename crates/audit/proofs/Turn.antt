@@ -16,7 +16,7 @@ use Rattle.model.specs.Answers.{faultNumber}
 use Rattle.laws.proofs.Accepted.{Accepted}
 use Rattle.audit.specs.Rows.{rowAt}
 use Rattle.audit.specs.Sweep.{leaveOf}
-use Rattle.faults.specs.Faults.{lastOf, entryFault}
+use Rattle.audit_faults.specs.Faults.{lastOf, rowFault}
 use Rattle.totals.proofs.Counting.{only-le}
 use Rattle.audit.proofs.Faults.{first-clear}
 use Rattle.audit.proofs.Held.{leave-le}
@@ -45,23 +45,23 @@ module _ {slots values : List ℕ} {room : ℕ} {lists : Lists} {i held most : �
   pub held-le : held ≤ i
   held-le = laws.held-le slots values room lists i held most last leaving (t .tested) (t .kept) (t .here) f fate-at
 
-  pub on-fault : (g : Fault) → entryFault slots (last .0) r ≡ record { number = faultNumber g; place = i + 1 }
+  pub on-fault : (g : Fault) → rowFault slots (last .0) r ≡ record { number = faultNumber g; place = i + 1 }
       → whole ≡ record { number = faultNumber g; place = i + 1 }
   on-fault g e =
       laws.turn-fault slots values room lists i held most last leaving (t .tested) (t .kept) (t .here) f fate-at g (rw (t .row-is) at e)
 
-  pub by-right : entryFault slots (last .0) r ≡ clear → byWrong (length slots) r ≡ false
+  pub by-right : rowFault slots (last .0) r ≡ clear → byWrong (length slots) r ≡ false
   by-right e = first-clear (byWrong (length slots) r) 11 (r .number .0) _ e
 
   -- what the code computes of the row
-  module _ {leave stays : ℕ} (clear-here : entryFault slots (last .0) r ≡ clear) (leave-is : leave ≡ leaveOf slots r) (stays-is : stays ≡ cond (ltb i leave) 1 0) where
+  module _ {leave stays : ℕ} (clear-here : rowFault slots (last .0) r ≡ clear) (leave-is : leave ≡ leaveOf slots r) (stays-is : stays ≡ cond (ltb i leave) 1 0) where
     pub leave-in : leave < length leaving
     leave-in = omega (arith, leave-is, leave-le f slots r (t .fate-is) (by-right clear-here), t .kept .places, t .tested .few)
 
     pub stays-le : stays ≤ 1
     stays-le = rw stays-is (only-le (ltb i leave) 1)
 
-    clear-at : entryFault slots (last .0) (rowAt slots values lists i) ≡ clear
+    clear-at : rowFault slots (last .0) (rowAt slots values lists i) ≡ clear
     clear-at = rw (t .row-is) at clear-here
 
     pub on-over : room < held - getD leaving i 0 + stays → whole ≡ record { number = 15; place = i + 1 }

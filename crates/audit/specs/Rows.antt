@@ -9,7 +9,7 @@ use Rattle.model.specs.Rules.{fateOutside}
 use Rattle.model.specs.Numbers.{fateNumber}
 use Rattle.model.specs.Record.{Row, Lists}
 use Rattle.model.specs.declared.Fate.the-variants.{Sent, Flushed}
-use Rattle.faults.specs.Faults.{rowOf}
+use Rattle.audit_faults.specs.Faults.{rowOf}
 use Rattle.audit.specs.declared.Named.{Named}
 use Rattle.audit.specs.declared.Named.the-variants.{Fate, Outside}
 use Rattle.audit.specs.declared.Read.{Read}
@@ -22,7 +22,7 @@ Names n Outside = within (fateNumber Sent) (fateNumber Flushed) n ≡ false
 
 -- what was read is the row, or its fate is outside 1 to 5
 abbrev pub Reads : Row → Read → Type 0
-Reads r (read.Entry e) = rowOf e ≡ r
+Reads r (read.Row e) = rowOf e ≡ r
 Reads r read.Outside = fateOutside r ≡ true
 
 -- the place of a packet in all five lists

@@ -11,14 +11,14 @@ ghost use Rattle.model.specs.Calls.{auditCall};
 ghost use Rattle.model.specs.Limits.{recordLimits};
 ghost use Rattle.model.specs.Rules.{byWrong, bufferOf};
 ghost use Rattle.model.specs.Lent.{listsBefore};
-ghost use Rattle.faults.specs.Faults.{rowOf};
+ghost use Rattle.audit_faults.specs.Faults.{rowOf};
 ghost use Rattle.laws.proofs.Accepted.{NeverDown, Accepted};
 ghost use Rattle.audit.specs.Rows.{rowAt, Names, Reads, Place};
 ghost use Rattle.audit.specs.Sweep.{upTo, leaveOf, SweptAs};
-use faults::Entry;
-use faults::Found;
-use faults::fault_of;
-use faults::last_of;
+use audit_faults::FatedRow;
+use audit_faults::Found;
+use audit_faults::fault_of;
+use audit_faults::last_of;
 use model::AuditAnswer;
 use model::Fate;
 use model::Fault;
@@ -36,9 +36,9 @@ enum Named {
     Outside,
 }
 
-// What stands at a place: an entry, or a fate that is none.
+// What stands at a place: a row, or a fate that is none.
 enum Read {
-    Entry(Entry),
+    Row(FatedRow),
     Outside,
 }
 
@@ -103,21 +103,21 @@ fn up_to(slots: &[u32], near: usize, when: Slot) -> usize
 }
 
 // The place of the first arrival at which the packet is held no more.
-fn leave_of(slots: &[u32], entry: Entry) -> usize
-    requires { ⌜ NeverDown (now slots) × (byWrong (length (now slots)) (rowOf entry) ≡ false) ⌝ }
-    ensures { λ r. ⌜ r ≡ leaveOf (now (slots .entry)) (rowOf entry) ⌝ }
+fn leave_of(slots: &[u32], row: FatedRow) -> usize
+    requires { ⌜ NeverDown (now slots) × (byWrong (length (now slots)) (rowOf row) ≡ false) ⌝ }
+    ensures { λ r. ⌜ r ≡ leaveOf (now (slots .entry)) (rowOf row) ⌝ }
 {
-    let fate = entry.fate;
+    let fate = row.fate;
     match fate {
-        Fate::Sent => up_to(slots, entry.number.0 as usize, entry.when),
+        Fate::Sent => up_to(slots, row.number.0 as usize, row.when),
         Fate::Rejected => 0,
-        Fate::PushedOut => entry.by.0 as usize - 1,
-        Fate::Preempted => entry.by.0 as usize - 1,
-        Fate::Flushed => up_to(slots, entry.number.0 as usize, entry.when),
+        Fate::PushedOut => row.by.0 as usize - 1,
+        Fate::Preempted => row.by.0 as usize - 1,
+        Fate::Flushed => up_to(slots, row.number.0 as usize, row.when),
     }
 }
 
-fn entry_at(
+fn row_at(
     slots: &[u32],
     values: &[u32],
     fates: &[u32],
@@ -131,7 +131,7 @@ fn entry_at(
     let Named::Fate(fate) = fate_of(fates[i]) else {
         return Read::Outside;
     };
-    Read::Entry(Entry {
+    Read::Row(FatedRow {
         number: PacketNumber(i as u32 + 1),
         slot: Slot(slots[i]),
         value: values[i],
@@ -176,14 +176,14 @@ fn sweep(
     let mut last = Slot(0);
     let mut i = 0;
     while i < slots.len() {
-        let Read::Entry(entry) = entry_at(slots, values, fates, whens, bys, i) else {
+        let Read::Row(row) = row_at(slots, values, fates, whens, bys, i) else {
             return faulty(Fault::FateOutside, i);
         };
-        if let Found::Fault(fault) = fault_of(slots, last, entry) {
+        if let Found::Fault(fault) = fault_of(slots, last, row) {
             return faulty(fault, i);
         }
-        last = last_of(last, entry);
-        let leave = leave_of(slots, entry);
+        last = last_of(last, row);
+        let leave = leave_of(slots, row);
         let stays = only_if(i < leave, 1);
         held = held - leaving[i] + stays;
         leaving[leave] += stays;
@@ -207,7 +207,7 @@ pub fn audit(
 ) -> AuditAnswer
     ensures { λ r. ⌜ ofAudit r ≡ auditCall (now (slots .entry)) (now (values .entry)) room (listsBefore fates whens bys) ⌝ }
 {
-    if let Checked::Refused(refusal) = trace::plain(slots, values, room, fates, whens, bys) {
+    if let Checked::Refused(refusal) = trace::check_plain(slots, values, room, fates, whens, bys) {
         return AuditAnswer::Refused(refusal);
     }
     match sweep(slots, values, room, fates, whens, bys) {

@@ -4,7 +4,7 @@ use crate::calls::Call;
 use crate::calls::say_call;
 use crate::calls::say_damages;
 use crate::case::Case;
-use crate::case::PLACES;
+use crate::case::ENTRIES;
 use crate::case::length_of;
 use crate::draw::source_of;
 use crate::hand::say_hand;
@@ -37,9 +37,9 @@ fn say_calls(
 // Says case number c.
 pub fn say_case(sum: &mut u64, c: u32) {
     let mut source = source_of(c);
-    let mut slots = [0u32; PLACES as usize];
-    let mut values = [0u32; PLACES as usize];
-    let mut mf_values = [0u32; PLACES as usize];
+    let mut slots = [0u32; ENTRIES as usize];
+    let mut values = [0u32; ENTRIES as usize];
+    let mut mf_values = [0u32; ENTRIES as usize];
     let case = case_of(&mut source, c, &mut slots, &mut values, &mut mf_values);
     let s = length_of(case.slots);
     let v = length_of(case.values);

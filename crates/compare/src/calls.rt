@@ -1,6 +1,6 @@
 // The calls on a trace, and what is said of each: a policy or the offline plan, with the audit of its record, and the audits of damaged records.
 use crate::case::Case;
-use crate::case::PLACES;
+use crate::case::ENTRIES;
 use crate::case::length_of;
 use crate::damage::damage_some;
 use crate::draw::draw;
@@ -9,10 +9,10 @@ use crate::said::say_record;
 use crate::said::say_run;
 use audit::audit;
 use model::RunAnswer;
-use runs::calls::greedy;
-use runs::calls::mf;
-use runs::calls::pg;
-use runs::calls::plan;
+use runs::greedy;
+use runs::mf;
+use runs::pg;
+use runs::plan;
 
 // A policy or the offline plan.
 pub enum Call {
@@ -67,9 +67,9 @@ pub fn say_call(sum: &mut u64, call: Call, case: Case, slots: &[u32], values: &[
     let f = length_of(case.fates);
     let w = length_of(case.whens);
     let b = length_of(case.bys);
-    let mut fates = [BEFORE; PLACES as usize];
-    let mut whens = [BEFORE; PLACES as usize];
-    let mut bys = [BEFORE; PLACES as usize];
+    let mut fates = [BEFORE; ENTRIES as usize];
+    let mut whens = [BEFORE; ENTRIES as usize];
+    let mut bys = [BEFORE; ENTRIES as usize];
     say_call_on(
         sum,
         call,
@@ -110,9 +110,9 @@ fn say_damaged(sum: &mut u64, source: &mut u64, case: Case, slots: &[u32], value
     let f = length_of(case.fates);
     let w = length_of(case.whens);
     let b = length_of(case.bys);
-    let mut fates = [BEFORE; PLACES as usize];
-    let mut whens = [BEFORE; PLACES as usize];
-    let mut bys = [BEFORE; PLACES as usize];
+    let mut fates = [BEFORE; ENTRIES as usize];
+    let mut whens = [BEFORE; ENTRIES as usize];
+    let mut bys = [BEFORE; ENTRIES as usize];
     say_damaged_on(
         sum,
         source,

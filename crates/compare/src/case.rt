@@ -50,7 +50,7 @@ struct Values {
 }
 
 // Two more than a trace may have: a list of one packet too many that is one longer still.
-pub const PLACES: u32 = 2_050;
+pub const ENTRIES: u32 = 2_050;
 
 const LAST_SLOT: u32 = 1_000_000;
 
@@ -58,10 +58,10 @@ const LAST_SLOT: u32 = 1_000_000;
 pub fn length_of(n: u32) -> usize
     ensures { λ r. ⌜ r ≤ 2_050 ⌝ }
 {
-    if n < PLACES {
+    if n < ENTRIES {
         n as usize
     } else {
-        PLACES as usize
+        ENTRIES as usize
     }
 }
 

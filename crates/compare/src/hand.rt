@@ -25,7 +25,7 @@ struct Hand {
     held: u32,
 }
 
-const PLACES: u32 = 256;
+const ROOM: u32 = Port::ROOM as u32;
 
 fn draw_held(source: &mut u64, room: u32) -> u32 {
     match draw(source, 4) {
@@ -90,11 +90,7 @@ fn draw_hand(source: &mut u64, case: Case, values: &mut [u32], numbers: &mut [u3
 
 // The places in use.
 fn used(hand: Hand) -> u32 {
-    if hand.held < PLACES {
-        hand.held
-    } else {
-        PLACES
-    }
+    if hand.held < ROOM { hand.held } else { ROOM }
 }
 
 // Kinds 0 to 7 and 21.
@@ -112,7 +108,7 @@ fn spoil_counts(kind: u32, mut hand: Hand) -> Hand {
         4 => hand.held = 257,
         5 => hand.held = 4_294_967_295,
         6 => {
-            if u < PLACES {
+            if u < ROOM {
                 hand.held = u + 1;
             }
         }
@@ -178,10 +174,10 @@ fn spoil_last(mut hand: Hand, numbers: &[u32]) -> Hand {
 
 // Kinds 22 and 23: an entry of the places not in use.
 fn spoil_unused(source: &mut u64, u: u32, list: &mut [u32]) {
-    if PLACES <= u {
+    if ROOM <= u {
         return;
     }
-    let place = u + draw(source, PLACES - u);
+    let place = u + draw(source, ROOM - u);
     put(list, place as usize, 1);
 }
 

@@ -12,6 +12,7 @@ use Rattle.model.specs.declared.Totals.{Totals}
 use Rattle.model.specs.declared.Fault.the-variants as faults
 use Rattle.model.specs.Limits.{within}
 use Rattle.model.specs.Record.{Lists}
+use Rattle.model.specs.Lent.{LentList, was, left, listsBefore, listsAfter}
 use Rattle.model.specs.Answers.{Reply, faultNumber}
 use Rattle.model.specs.Calls.{Outcome}
 
@@ -55,3 +56,8 @@ pub record SaidOfAudit (reply : Reply) (before : List ℕ) (answer : ℕ) (after
 pub record Said (outcome : Outcome) (before : List ℕ) (answer : ℕ) (record-lists : Lists) (after : List ℕ) : Type 0 where
   pub reply : SaidOfAudit (outcome .reply) before answer after
   pub lists : record-lists ≡ outcome .lists
+
+-- what the call of these lists says
+abbrev pub SaysOf : LentList → LentList → LentList → LentList → ℕ → (Lists → Outcome) → Type 0
+SaysOf fates whens bys totals answer call =
+    Said (call (listsBefore fates whens bys)) (was totals) answer (listsAfter fates whens bys) (left totals)

@@ -5,8 +5,8 @@ mod said;
 ghost use Rattle.model.specs.Calls.{greedyCall, pgCall, mfCall, planCall, auditCall};
 ghost use Rattle.model.specs.Port.{makeCall};
 ghost use mathlib.Core.Path.{_≡_};
-ghost use Rattle.model.specs.Lent.{was, left, listsBefore, listsAfter};
-ghost use Rattle.host.specs.Said.{betaOf, markingOf, Said, SaidOfAudit};
+ghost use Rattle.model.specs.Lent.{was, left, listsBefore};
+ghost use Rattle.host.specs.Said.{betaOf, markingOf, SaysOf, SaidOfAudit};
 ghost use Rattle.host.specs.Live.{heardOf};
 use crate::live::feed;
 use crate::said::code;
@@ -17,10 +17,10 @@ use model::Beta;
 use model::MakingAnswer;
 use model::Marking;
 use port::Port;
-use runs::calls::greedy;
-use runs::calls::mf;
-use runs::calls::pg;
-use runs::calls::plan;
+use runs::greedy;
+use runs::mf;
+use runs::pg;
+use runs::plan;
 
 // Plain greedy. Every call answers 0 and writes its totals, or it answers a refusal's number times 2^32 and its place, and writes nothing.
 #[no_mangle]
@@ -33,7 +33,7 @@ pub extern "C" fn host_greedy(
     bys: &mut [u32],
     totals: &mut [u32],
 ) -> u64
-    ensures { λ r. ⌜ Said (greedyCall (was slots) (was values) room (listsBefore fates whens bys)) (was totals) r (listsAfter fates whens bys) (left totals) ⌝ }
+    ensures { λ r. ⌜ SaysOf fates whens bys totals r (greedyCall (was slots) (was values) room) ⌝ }
 {
     say_run(greedy(slots, values, room, fates, whens, bys), totals)
 }
@@ -51,7 +51,7 @@ pub extern "C" fn host_pg(
     bys: &mut [u32],
     totals: &mut [u32],
 ) -> u64
-    ensures { λ r. ⌜ Said (pgCall (was slots) (was values) room (betaOf num den) (listsBefore fates whens bys)) (was totals) r (listsAfter fates whens bys) (left totals) ⌝ }
+    ensures { λ r. ⌜ SaysOf fates whens bys totals r (pgCall (was slots) (was values) room (betaOf num den)) ⌝ }
 {
     say_run(
         pg(slots, values, room, Beta { num, den }, fates, whens, bys),
@@ -73,7 +73,7 @@ pub extern "C" fn host_mf(
     bys: &mut [u32],
     totals: &mut [u32],
 ) -> u64
-    ensures { λ a. ⌜ Said (mfCall (was slots) (was values) room (markingOf lo hi r) (listsBefore fates whens bys)) (was totals) a (listsAfter fates whens bys) (left totals) ⌝ }
+    ensures { λ a. ⌜ SaysOf fates whens bys totals a (mfCall (was slots) (was values) room (markingOf lo hi r)) ⌝ }
 {
     say_run(
         mf(
@@ -100,7 +100,7 @@ pub extern "C" fn host_plan(
     bys: &mut [u32],
     totals: &mut [u32],
 ) -> u64
-    ensures { λ r. ⌜ Said (planCall (was slots) (was values) room (listsBefore fates whens bys)) (was totals) r (listsAfter fates whens bys) (left totals) ⌝ }
+    ensures { λ r. ⌜ SaysOf fates whens bys totals r (planCall (was slots) (was values) room) ⌝ }
 {
     say_run(plan(slots, values, room, fates, whens, bys), totals)
 }

@@ -39,9 +39,9 @@ const TRACE: [u8; 10] = *b"slot,value";
 const RECORD: [u8; 30] = *b"number,slot,value,fate,when,by";
 
 // A place for each packet in each column: of a trace, and of a record.
-const TRACE_PLACES: usize = 2 * Record::PACKETS;
+const TRACE_TABLE: usize = 2 * Record::PACKETS;
 
-const PLACES: usize = 6 * Record::PACKETS;
+const RECORD_TABLE: usize = 6 * Record::PACKETS;
 
 // The longest answer.
 const OUTPUT: usize = 32 + 128 * Record::PACKETS;
@@ -61,7 +61,7 @@ fn read_input(job: Job, table: &mut [u32]) -> Ended
     if let Job::Audit(_) = job {
         return read_rows(&RECORD, table);
     }
-    read_rows(&TRACE, &mut table[..TRACE_PLACES])
+    read_rows(&TRACE, &mut table[..TRACE_TABLE])
 }
 
 // What is said of a job and what was read for it.
@@ -113,7 +113,7 @@ fn answer_words(words: &[u8], firsts: &[u32], seconds: &[u32], out: &mut [u8]) -
     if let Job::None = job {
         return Told::Answered(0);
     }
-    let mut rows = [0u32; PLACES];
+    let mut rows = [0u32; RECORD_TABLE];
     match read_input(job, &mut rows) {
         Ended::Read(read) => {
             let n = say_words(job, firsts, seconds, read, &rows, out);

@@ -32,10 +32,10 @@ pub fn call(
     ensures { λ r. ⌜ outcome r (listsAfter fates whens bys) ≡ callOf policy room (now (slots .entry)) (now (values .entry)) (listsBefore fates whens bys) ⌝ }
 {
     match policy {
-        Policy::Greedy => runs::calls::greedy(slots, values, room, fates, whens, bys),
-        Policy::Pg(beta) => runs::calls::pg(slots, values, room, beta, fates, whens, bys),
-        Policy::Mf(m) => runs::calls::mf(slots, values, room, m, fates, whens, bys),
-        Policy::Plan => runs::calls::plan(slots, values, room, fates, whens, bys),
+        Policy::Greedy => runs::greedy(slots, values, room, fates, whens, bys),
+        Policy::Pg(beta) => runs::pg(slots, values, room, beta, fates, whens, bys),
+        Policy::Mf(m) => runs::mf(slots, values, room, m, fates, whens, bys),
+        Policy::Plan => runs::plan(slots, values, room, fates, whens, bys),
     }
 }
 

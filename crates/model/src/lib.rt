@@ -53,12 +53,8 @@ impl Fate {
     }
 }
 
-// What the record says of one packet: an entry of each of its three lists. The fate is a number, since anyone's record may hold any.
-pub struct Record {
-    pub fate: u32,
-    pub when: Slot,
-    pub by: PacketNumber,
-}
+// The kind of a trace and its record, by which their limits are named. A record itself is three lists that the caller lends.
+pub struct Record {}
 
 impl Record {
     pub const PACKETS: usize = 2_048;

@@ -76,7 +76,7 @@ fn overflow(values: &[u32], low: u32, arrival: u32) -> Choice
 }
 
 // Plain greedy.
-fn greedy(values: &[u32], room: usize, arrival: u32) -> Choice
+fn decide_greedy(values: &[u32], room: usize, arrival: u32) -> Choice
     ensures { λ r. ⌜ r ≡ greedyChoice room (now (values .entry)) arrival ⌝ }
 {
     if room <= values.len() {
@@ -87,11 +87,11 @@ fn greedy(values: &[u32], room: usize, arrival: u32) -> Choice
 }
 
 // PG. Where even the lowest value is not preempted none is.
-fn pg(values: &[u32], room: usize, beta: Beta, arrival: u32) -> Choice
+fn decide_pg(values: &[u32], room: usize, beta: Beta, arrival: u32) -> Choice
     ensures { λ r. ⌜ r ≡ choose room (Rule.PG beta) (now (values .entry)) arrival ⌝ }
 {
     if values.len() == 0 {
-        return greedy(values, room, arrival);
+        return decide_greedy(values, room, arrival);
     }
     let low = lowest(values);
     if (low as u64) * (beta.num as u64) <= (arrival as u64) * (beta.den as u64) {
@@ -109,8 +109,8 @@ pub fn decide(values: &[u32], room: usize, rule: Rule, arrival: u32) -> Choice
     ensures { λ r. ⌜ ofChoice r ≡ ofChoice (choose room rule (now (values .entry)) arrival) ⌝ }
 {
     match rule {
-        Rule::Greedy => greedy(values, room, arrival),
-        Rule::PG(beta) => pg(values, room, beta, arrival),
+        Rule::Greedy => decide_greedy(values, room, arrival),
+        Rule::PG(beta) => decide_pg(values, room, beta, arrival),
     }
 }
 

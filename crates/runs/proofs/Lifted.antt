@@ -11,7 +11,7 @@ use Rattle.model.specs.Course.{Step, Decided, andThen, byRule, sendOldest, slot
 use Rattle.model.specs.Policies.MF.{Marked}
 use Rattle.laws.proofs.Held.{mostQueue}
 use Rattle.steps.specs.Calls.{Ready}
-use Rattle.marks.specs.Mark.{beside}
+use Rattle.mf_marks.specs.Mark.{beside}
 use Rattle.runs.specs.Policy.{queueStep, lifted}
 
 module _ (rule : List Packet → Packet → Decided) (marks : List ℕ) where

@@ -26,9 +26,9 @@ use Rattle.checks.proofs.Tests.{left-part}
 use Rattle.steps.specs.Guarded.{Guarded}
 use Rattle.steps.specs.Calls.{Ready}
 use Rattle.steps.proofs.Answering.{ready}
-use Rattle.marks.specs.Mark.{beside}
-use Rattle.kept.specs.Keep.{accepts}
-use Rattle.kept.proofs.Planned.{all-accepted}
+use Rattle.mf_marks.specs.Mark.{beside}
+use Rattle.plan_kept.specs.Keep.{accepts}
+use Rattle.plan_kept.proofs.Planned.{all-accepted}
 use Rattle.runs.specs.declared.policy.Policy.the-variants.{Kept}
 use Rattle.runs.specs.Policy.{lifted, courseBy}
 use Rattle.runs.proofs.Lifted.{lifted-course, lifted-ready}

@@ -21,8 +21,8 @@ use Rattle.steps.proofs.Windows.{window}
 use Rattle.steps.proofs.Turning.{sending-is, turning-is}
 use Rattle.steps.proofs.Coursing.{at}
 use Rattle.steps.proofs.Running as loop
-use Rattle.marks.specs.Mark.{beside}
-use Rattle.flush.specs.Flush.{Finished}
+use Rattle.mf_marks.specs.Mark.{beside}
+use Rattle.mf_flush.specs.Flush.{Finished}
 use Rattle.runs.specs.declared.policy.Policy.{Policy as Named}
 use Rattle.runs.specs.Policy.{endsBy, turnBy, policyBy}
 use Rattle.runs.proofs.Turning.{held-is, ends-are, turn-is}

@@ -18,8 +18,8 @@ use Rattle.steps.specs.Window.{windowOf, Within}
 use Rattle.steps.specs.Step.{Stepped, sending, arriving}
 use Rattle.steps.proofs.Arriving.{window-length}
 use Rattle.steps.proofs.Turning.{entered-both, sending-shorter, sending-is}
-use Rattle.marks.specs.Mark.{beside}
-use Rattle.flush.specs.Flush.{Finished, ending}
+use Rattle.mf_marks.specs.Mark.{beside}
+use Rattle.mf_flush.specs.Flush.{Finished, ending}
 use Rattle.runs.specs.declared.policy.Policy.{Policy as Named}
 use Rattle.runs.specs.declared.policy.Policy.the-variants.{Kept, Marking}
 use Rattle.runs.specs.Policy.{queueStep, lifted, ruleBy, endsBy, turnBy, policyBy}

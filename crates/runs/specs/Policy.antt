@@ -10,10 +10,12 @@ use Rattle.model.specs.Policies.Greedy.{greedyRule}
 use Rattle.model.specs.Policies.MF.{Marked, mfPolicy}
 use Rattle.model.specs.Policies.Plan.{keptRule}
 use Rattle.steps.specs.Step.{Stepped, sending, arriving}
-use Rattle.steps.specs.Lent.{queueIn, Moved}
+use Rattle.model.specs.Lent.{LentList}
+use Rattle.steps.specs.declared.Window.{Window}
+use Rattle.steps.specs.Lent.{queueIn, Moved, movedFrom, movedTo}
 use Rattle.steps.specs.Run.{Ran}
-use Rattle.marks.specs.Mark.{beside}
-use Rattle.flush.specs.Flush.{Finished, ending, MovedMF}
+use Rattle.mf_marks.specs.Mark.{beside}
+use Rattle.mf_flush.specs.Flush.{Finished, ending, MovedMF, mfFrom, mfTo}
 use Rattle.runs.specs.declared.policy.Policy.{Policy as Named}
 use Rattle.runs.specs.declared.policy.Policy.the-variants.{Kept, Marking}
 
@@ -66,8 +68,16 @@ Does step m n =
     let after = n .lent in
     Finished (step (beside (queueIn (m .lent)) (m .marks))) (m .written) (after .window) (after .numbers) (after .values) (n .marks) (n .written)
 
+abbrev pub DoesIn : Window → Window → LentList → LentList → LentList → LentList → LentList → LentList → (Marked → Step Marked) → Type 0
+DoesIn w r numbers values marks fates whens bys step =
+    Does step (mfFrom w numbers values marks fates whens bys) (mfTo r numbers values marks fates whens bys)
+
 -- a step of the queue alone
 abbrev pub DoesQueue : (List Packet → Step (List Packet)) → Moved → Moved → Type 0
 DoesQueue step m n =
     let after = n .lent in
     Stepped (step (queueIn (m .lent))) (m .written) (after .window) (after .numbers) (after .values) (n .written)
+
+abbrev pub DoesQueueIn : Window → Window → LentList → LentList → LentList → LentList → LentList → (List Packet → Step (List Packet)) → Type 0
+DoesQueueIn w r numbers values fates whens bys step =
+    DoesQueue step (movedFrom w numbers values fates whens bys) (movedTo r numbers values fates whens bys)

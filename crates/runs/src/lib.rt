@@ -1,5 +1,197 @@
-// The policies and the offline plan on a trace: a run for plain greedy and PG, and one for all others, a policy as a value.
-pub mod calls;
+// The policies and the offline plan on a trace, each a call that tests its input, runs, and answers the totals of the record that it wrote. Plain greedy and PG
+// share a run; all others share one, with the policy as a value.
 mod policy;
 mod rule;
 mod run;
+
+ghost use mathlib.Core.Path.{_≡_};
+ghost use mathlib.Core.List.{[]};
+ghost use Prim.Native.Nat.{_≤_};
+ghost use lib.ListN.{length};
+ghost use Rattle.model.specs.Calls.{ran, greedyCall, pgCall, mfCall, planCall};
+ghost use Rattle.model.specs.Lent.{was, listsBefore, listsAfter};
+ghost use Rattle.model.specs.Packets.{arrivals};
+ghost use Rattle.model.specs.Record.{listsOf};
+ghost use Rattle.model.specs.Course.{byRule, runBy};
+ghost use Rattle.model.specs.Rules.{clear};
+ghost use Rattle.model.specs.Refusals.{plainRefusal};
+ghost use Rattle.model.specs.Policies.MF.{mfPolicy, mfRun, unmarked};
+ghost use Rattle.model.specs.Policies.Plan.{planRun};
+ghost use Rattle.queue.specs.Choose.{ruleOf};
+ghost use Rattle.steps.specs.Calls.{Ready, outcome};
+ghost use Rattle.mf_marks.specs.Mark.{beside};
+ghost use Rattle.runs.specs.Policy.{policyBy, courseBy};
+use crate::policy::Policy;
+use crate::rule::run_rule;
+use crate::run::run;
+use model::Beta;
+use model::Marking;
+use model::Record;
+use model::RunAnswer;
+use plan_kept::keep;
+use queue::Rule;
+use totals::totals;
+use trace::Checked;
+
+// The run of a policy over an accepted trace, and its totals.
+fn finish(
+    slots: &[u32],
+    values: &[u32],
+    policy: Policy,
+    kept: &[u8],
+    marks: &mut [u32],
+    fates: &mut [u32],
+    whens: &mut [u32],
+    bys: &mut [u32],
+) -> RunAnswer
+    requires { ⌜ Ready (policyBy policy (now slots) (now kept)) (beside [] (now marks)) (now slots) (now values) (listsOf (now fates) (now whens) (now bys)) ⌝ }
+    ensures { λ r. ⌜ outcome r (listsAfter fates whens bys) ≡ ran (was slots) (was values) (courseBy policy (was kept) (was marks) (was slots) (was values)) ⌝ }
+{
+    let most_held = run(slots, values, policy, kept, marks, fates, whens, bys);
+    RunAnswer::Ran(totals(values, fates, most_held))
+}
+
+// A rule's run over an accepted trace, and its totals.
+fn finish_rule(
+    slots: &[u32],
+    values: &[u32],
+    room: usize,
+    rule: Rule,
+    fates: &mut [u32],
+    whens: &mut [u32],
+    bys: &mut [u32],
+) -> RunAnswer
+    requires { ⌜ Ready (byRule (ruleOf room rule)) [] (now slots) (now values) (listsOf (now fates) (now whens) (now bys)) ⌝ }
+    requires { ⌜ 1 ≤ room ⌝ }
+    ensures { λ r. ⌜ outcome r (listsAfter fates whens bys) ≡ ran (was slots) (was values) (runBy (ruleOf room rule) (arrivals (was slots) (was values))) ⌝ }
+{
+    let most = run_rule(slots, values, room, rule, fates, whens, bys);
+    RunAnswer::Ran(totals(values, fates, most))
+}
+
+// Plain greedy.
+pub fn greedy(
+    slots: &[u32],
+    values: &[u32],
+    room: usize,
+    fates: &mut [u32],
+    whens: &mut [u32],
+    bys: &mut [u32],
+) -> RunAnswer
+    ensures { λ r. ⌜ outcome r (listsAfter fates whens bys) ≡ greedyCall (was slots) (was values) room (listsBefore fates whens bys) ⌝ }
+{
+    match trace::check_plain(slots, values, room, fates, whens, bys) {
+        Checked::Refused(refusal) => RunAnswer::Refused(refusal),
+        Checked::Accepted => finish_rule(slots, values, room, Rule::Greedy, fates, whens, bys),
+    }
+}
+
+// PG.
+pub fn pg(
+    slots: &[u32],
+    values: &[u32],
+    room: usize,
+    beta: Beta,
+    fates: &mut [u32],
+    whens: &mut [u32],
+    bys: &mut [u32],
+) -> RunAnswer
+    ensures { λ r. ⌜ outcome r (listsAfter fates whens bys) ≡ pgCall (was slots) (was values) room beta (listsBefore fates whens bys) ⌝ }
+{
+    match trace::check_pg(slots, values, room, beta, fates, whens, bys) {
+        Checked::Refused(refusal) => RunAnswer::Refused(refusal),
+        Checked::Accepted => finish_rule(slots, values, room, Rule::PG(beta), fates, whens, bys),
+    }
+}
+
+// MF's run, with a mark for each packet of the trace.
+fn finish_mf(
+    slots: &[u32],
+    values: &[u32],
+    room: usize,
+    marking: Marking,
+    fates: &mut [u32],
+    whens: &mut [u32],
+    bys: &mut [u32],
+) -> RunAnswer
+    requires { ⌜ Ready (mfPolicy room marking (now slots)) (unmarked (length (now slots))) (now slots) (now values) (listsOf (now fates) (now whens) (now bys)) ⌝ }
+    ensures { λ r. ⌜ outcome r (listsAfter fates whens bys) ≡ ran (was slots) (was values) (mfRun room marking (was slots) (was values)) ⌝ }
+{
+    let mut marks = [0u32; Record::PACKETS];
+    let n = slots.len();
+    let policy = Policy::Marking(room, marking);
+    finish(
+        slots,
+        values,
+        policy,
+        &[],
+        &mut marks[..n],
+        fates,
+        whens,
+        bys,
+    )
+}
+
+// MF.
+pub fn mf(
+    slots: &[u32],
+    values: &[u32],
+    room: usize,
+    marking: Marking,
+    fates: &mut [u32],
+    whens: &mut [u32],
+    bys: &mut [u32],
+) -> RunAnswer
+    ensures { λ r. ⌜ outcome r (listsAfter fates whens bys) ≡ mfCall (was slots) (was values) room marking (listsBefore fates whens bys) ⌝ }
+{
+    match trace::check_mf(slots, values, room, marking, fates, whens, bys) {
+        Checked::Refused(refusal) => RunAnswer::Refused(refusal),
+        Checked::Accepted => finish_mf(slots, values, room, marking, fates, whens, bys),
+    }
+}
+
+// The plan's run: which packets it keeps, then the run in which these are held.
+fn finish_plan(
+    slots: &[u32],
+    values: &[u32],
+    room: usize,
+    fates: &mut [u32],
+    whens: &mut [u32],
+    bys: &mut [u32],
+) -> RunAnswer
+    requires { ⌜ clear ≡ plainRefusal (now slots) (now values) room (listsOf (now fates) (now whens) (now bys)) ⌝ }
+    ensures { λ r. ⌜ outcome r (listsAfter fates whens bys) ≡ ran (was slots) (was values) (planRun room (arrivals (was slots) (was values))) ⌝ }
+{
+    let mut kept = [0u8; Record::PACKETS];
+    let n = slots.len();
+    keep(slots, values, room, &mut kept[..n]);
+    let mut marks = [0u32; 0];
+    finish(
+        slots,
+        values,
+        Policy::Kept,
+        &kept[..n],
+        &mut marks,
+        fates,
+        whens,
+        bys,
+    )
+}
+
+// The offline plan.
+pub fn plan(
+    slots: &[u32],
+    values: &[u32],
+    room: usize,
+    fates: &mut [u32],
+    whens: &mut [u32],
+    bys: &mut [u32],
+) -> RunAnswer
+    ensures { λ r. ⌜ outcome r (listsAfter fates whens bys) ≡ planCall (was slots) (was values) room (listsBefore fates whens bys) ⌝ }
+{
+    let tested = trace::check_plain(slots, values, room, fates, whens, bys);
+    match tested {
+        Checked::Refused(refusal) => RunAnswer::Refused(refusal),
+        Checked::Accepted => finish_plan(slots, values, room, fates, whens, bys),
+    }
+}

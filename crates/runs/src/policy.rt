@@ -7,8 +7,7 @@ ghost use Rattle.model.specs.Policies.Plan.{keptOf};
 ghost use Rattle.model.specs.Lent.{was};
 ghost use Rattle.steps.specs.Window.{Within};
 ghost use Rattle.steps.specs.Step.{arrival};
-ghost use Rattle.flush.specs.Flush.{mfFrom, mfTo};
-ghost use Rattle.runs.specs.Policy.{endsBy, turnBy, Does};
+ghost use Rattle.runs.specs.Policy.{endsBy, turnBy, DoesIn};
 use entry::place_of;
 use model::Marking;
 use model::Packet;
@@ -50,10 +49,10 @@ pub fn end_slots(
     until: Slot,
 ) -> Window
     requires { ⌜ Within w (now numbers) (now values) ⌝ }
-    ensures { λ r. ⌜ Does (endsBy policy (was slots) from until) (mfFrom w numbers values marks fates whens bys) (mfTo r numbers values marks fates whens bys) ⌝ }
+    ensures { λ r. ⌜ DoesIn w r numbers values marks fates whens bys (endsBy policy (was slots) from until) ⌝ }
 {
     match policy {
-        Policy::Marking(room, marking) => flush::end_slots(
+        Policy::Marking(room, marking) => mf_flush::end_slots(
             numbers,
             values,
             slots,
@@ -73,7 +72,7 @@ pub fn end_slots(
 
 // One packet of a trace: the ends of the slots before its own, then its arrival. It does not go by `end_slots`: each function here has one caller, and so is
 // put in line.
-pub fn take(
+pub fn turn(
     numbers: &mut [u32],
     values: &mut [u32],
     slots: &[u32],
@@ -90,11 +89,11 @@ pub fn take(
 ) -> Window
     requires { ⌜ Within w (now numbers) (now values) ⌝ }
     requires { ⌜ w .tail - w .head < length (now values) ⌝ }
-    ensures { λ r. ⌜ Does (turnBy policy (was slots) (was kept) last (arrival slot p)) (mfFrom w numbers values marks fates whens bys) (mfTo r numbers values marks fates whens bys) ⌝ }
+    ensures { λ r. ⌜ DoesIn w r numbers values marks fates whens bys (turnBy policy (was slots) (was kept) last (arrival slot p)) ⌝ }
 {
     match policy {
         Policy::Marking(room, marking) => {
-            let left = flush::end_slots(
+            let left = mf_flush::end_slots(
                 numbers,
                 values,
                 slots,

@@ -6,10 +6,9 @@ ghost use Prim.Native.Nat.{_-_, _≤_, _<_};
 ghost use lib.ListN.{length};
 ghost use Rattle.steps.specs.Window.{Within};
 ghost use Rattle.steps.specs.Step.{arrival, turning};
-ghost use Rattle.steps.specs.Lent.{movedFrom, movedTo};
 ghost use Rattle.model.specs.Lent.{was, listsBefore, listsAfter};
 ghost use Rattle.steps.specs.Run.{Runnable, Ran};
-ghost use Rattle.runs.specs.Policy.{DoesQueue};
+ghost use Rattle.runs.specs.Policy.{DoesQueueIn};
 use model::Packet;
 use model::PacketNumber;
 use model::Slot;
@@ -21,7 +20,7 @@ use steps::moves::hold;
 use steps::moves::send_until;
 
 // One packet of a trace: the ends of the slots before its own, then its arrival. A packet that finds nothing held is held at once: room is at least 1.
-fn take(
+fn turn(
     numbers: &mut [u32],
     values: &mut [u32],
     fates: &mut [u32],
@@ -37,7 +36,7 @@ fn take(
     requires { ⌜ Within w (now numbers) (now values) ⌝ }
     requires { ⌜ w .tail - w .head < length (now values) ⌝ }
     requires { ⌜ 1 ≤ room ⌝ }
-    ensures { λ r. ⌜ DoesQueue (turning (ruleOf room rule) before (arrival slot p)) (movedFrom w numbers values fates whens bys) (movedTo r numbers values fates whens bys) ⌝ }
+    ensures { λ r. ⌜ DoesQueueIn w r numbers values fates whens bys (turning (ruleOf room rule) before (arrival slot p)) ⌝ }
 {
     let left = send_until(numbers, values, fates, whens, bys, w, before, slot);
     if left.head == left.tail {
@@ -72,7 +71,7 @@ pub fn run_rule(
     ensures { λ r. ⌜ Ran (byRule (ruleOf room rule)) [] (was slots) (was values) (listsBefore fates whens bys) (listsAfter fates whens bys) r ⌝ }
 {
     let mut numbers = [0u32; PLACES];
-    let mut held = [0u32; PLACES];
+    let mut held_values = [0u32; PLACES];
     let mut w = Window { head: 0, tail: 0 };
     let mut last = Slot(1);
     let mut most = 0;
@@ -86,9 +85,9 @@ pub fn run_rule(
             number: PacketNumber(number),
             value,
         };
-        w = take(
+        w = turn(
             &mut numbers,
-            &mut held,
+            &mut held_values,
             fates,
             whens,
             bys,
@@ -110,6 +109,6 @@ pub fn run_rule(
     let slots_left = left as u32;
     let end = last.0 + slots_left;
     let until = Slot(end);
-    send_until(&numbers, &held, fates, whens, bys, w, last, until);
+    send_until(&numbers, &held_values, fates, whens, bys, w, last, until);
     most as u32
 }

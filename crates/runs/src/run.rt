@@ -2,11 +2,11 @@
 ghost use mathlib.Core.List.{[]};
 ghost use Rattle.model.specs.Lent.{was, listsBefore, listsAfter};
 ghost use Rattle.steps.specs.Run.{Runnable};
-ghost use Rattle.marks.specs.Mark.{beside};
+ghost use Rattle.mf_marks.specs.Mark.{beside};
 ghost use Rattle.runs.specs.Policy.{policyBy, RanBy};
 use crate::policy::Policy;
 use crate::policy::end_slots;
-use crate::policy::take;
+use crate::policy::turn;
 use model::Packet;
 use model::PacketNumber;
 use model::Slot;
@@ -28,7 +28,7 @@ pub fn run(
     ensures { λ r. ⌜ RanBy policy (was kept) (was marks) (was slots) (was values) (listsBefore fates whens bys) (listsAfter fates whens bys) r ⌝ }
 {
     let mut numbers = [0u32; PLACES];
-    let mut held = [0u32; PLACES];
+    let mut held_values = [0u32; PLACES];
     let mut w = Window { head: 0, tail: 0 };
     let mut last = Slot(1);
     let mut most = 0;
@@ -42,9 +42,9 @@ pub fn run(
             number: PacketNumber(number),
             value,
         };
-        w = take(
+        w = turn(
             &mut numbers,
-            &mut held,
+            &mut held_values,
             slots,
             kept,
             marks,
@@ -70,7 +70,7 @@ pub fn run(
     let until = Slot(end);
     end_slots(
         &mut numbers,
-        &mut held,
+        &mut held_values,
         slots,
         marks,
         fates,

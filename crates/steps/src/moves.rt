@@ -5,10 +5,10 @@ ghost use mathlib.Core.List.{[]};
 ghost use Rattle.model.specs.Course.{heldIf};
 ghost use Rattle.model.specs.Lent.{listsAfter};
 ghost use Rattle.queue.specs.Choose.{ruleOf};
-ghost use Rattle.steps.specs.Window.{windowOf, Oldest};
+ghost use Rattle.steps.specs.Window.{Oldest};
 ghost use Rattle.steps.specs.Step.{arrival};
 ghost use Rattle.steps.specs.Guarded.{Guarded, liesWithin, hasPlace};
-ghost use Rattle.steps.specs.Lent.{lentBefore, lentAfter, holding, moved, movedFrom, movedTo, on, arrivingIn, sendingIn};
+ghost use Rattle.steps.specs.Lent.{lentBefore, lentAfter, liesBefore, queueIn, holding, moved, movedFrom, on, Moves, arrivingIn, sendingIn};
 use crate::Window;
 use crate::held;
 use crate::step;
@@ -41,7 +41,7 @@ fn has_place(numbers: &[u32], values: &[u32], w: Window) -> bool
 
 // What the end of a slot answers: the oldest packet, or idle; idle too where the window does not lie within its lists.
 pub fn oldest(numbers: &[u32], values: &[u32], w: Window) -> SlotAnswer
-    ensures { λ r. ⌜ Guarded (liesWithin w (now (numbers .entry)) (now (values .entry))) (Oldest (windowOf w (now (numbers .entry)) (now (values .entry))) r) (Oldest [] r) ⌝ }
+    ensures { λ r. ⌜ Guarded (liesBefore w numbers values) (Oldest (queueIn (lentBefore w numbers values)) r) (Oldest [] r) ⌝ }
 {
     if !lies_within(numbers, values, w) {
         return SlotAnswer::Idle;
@@ -90,7 +90,7 @@ pub fn hold_or_reject(
     slot: Slot,
     p: Packet,
 ) -> Window
-    ensures { λ r. ⌜ movedTo r numbers values fates whens bys ≡ on (arrivingIn (heldIf keep) (arrival slot p)) (movedFrom w numbers values fates whens bys) ⌝ }
+    ensures { λ r. ⌜ Moves w r numbers values fates whens bys (arrivingIn (heldIf keep) (arrival slot p)) ⌝ }
 {
     if !has_place(numbers, values, w) {
         return w;
@@ -111,7 +111,7 @@ pub fn arrive(
     slot: Slot,
     p: Packet,
 ) -> Window
-    ensures { λ r. ⌜ movedTo r numbers values fates whens bys ≡ on (arrivingIn (ruleOf room rule) (arrival slot p)) (movedFrom w numbers values fates whens bys) ⌝ }
+    ensures { λ r. ⌜ Moves w r numbers values fates whens bys (arrivingIn (ruleOf room rule) (arrival slot p)) ⌝ }
 {
     if !has_place(numbers, values, w) {
         return w;

@@ -1,5 +1,4 @@
 // What a slot brings to a window that lies within its two lists: arrivals, and the sendings at the ends of slots.
-ghost use mathlib.Core.Path.{_≡_};
 ghost use Prim.Native.Nat.{_+_, _-_, _<_};
 ghost use lib.ListN.{length};
 ghost use Rattle.model.specs.Course.{heldIf};
@@ -7,7 +6,7 @@ ghost use Rattle.model.specs.Lent.{listsAfter};
 ghost use Rattle.queue.specs.Choose.{ruleOf, applied};
 ghost use Rattle.steps.specs.Window.{Within};
 ghost use Rattle.steps.specs.Step.{arrival, sending};
-ghost use Rattle.steps.specs.Lent.{lentBefore, moved, movedFrom, movedTo, on, decidingBy, SentIn};
+ghost use Rattle.steps.specs.Lent.{lentBefore, moved, movedFrom, Moves, decidingBy, SentIn};
 use crate::Window;
 use crate::held::hold;
 use crate::held::lose;
@@ -74,7 +73,7 @@ fn replace(
 ) -> Window
     requires { ⌜ Within w (now numbers) (now values) ⌝ }
     requires { ⌜ w .head + place < w .tail ⌝ }
-    ensures { λ r. ⌜ movedTo r numbers values fates whens bys ≡ on (decidingBy (applied (Choice.Lose place kind)) (arrival slot p)) (movedFrom w numbers values fates whens bys) ⌝ }
+    ensures { λ r. ⌜ Moves w r numbers values fates whens bys (decidingBy (applied (Choice.Lose place kind)) (arrival slot p)) ⌝ }
 {
     let at = w.head + place;
     let lost = PacketNumber(numbers[at]);
@@ -97,7 +96,7 @@ pub fn hold_or_reject(
 ) -> Window
     requires { ⌜ Within w (now numbers) (now values) ⌝ }
     requires { ⌜ w .tail - w .head < length (now values) ⌝ }
-    ensures { λ r. ⌜ movedTo r numbers values fates whens bys ≡ on (decidingBy (heldIf keep) (arrival slot p)) (movedFrom w numbers values fates whens bys) ⌝ }
+    ensures { λ r. ⌜ Moves w r numbers values fates whens bys (decidingBy (heldIf keep) (arrival slot p)) ⌝ }
 {
     if keep {
         return hold(numbers, values, w, p);
@@ -121,7 +120,7 @@ pub fn arrive(
 ) -> Window
     requires { ⌜ Within w (now numbers) (now values) ⌝ }
     requires { ⌜ w .tail - w .head < length (now values) ⌝ }
-    ensures { λ r. ⌜ movedTo r numbers values fates whens bys ≡ on (decidingBy (ruleOf room rule) (arrival slot p)) (movedFrom w numbers values fates whens bys) ⌝ }
+    ensures { λ r. ⌜ Moves w r numbers values fates whens bys (decidingBy (ruleOf room rule) (arrival slot p)) ⌝ }
 {
     let head = w.head;
     let tail = w.tail;

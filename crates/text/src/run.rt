@@ -39,7 +39,7 @@ fn say(
     ensures { λ r. ⌜ Wrote 0 (saidOf (now (slots .entry)) (now (values .entry)) (pgCall (now (slots .entry)) (now (values .entry)) benchRoom benchBeta (listsBefore fates whens bys))) (now (out .entry)) r (now (out .exit)) ⌝ }
 {
     let beta = Beta { num: NUM, den: DEN };
-    match runs::calls::pg(slots, values, ROOM, beta, fates, whens, bys) {
+    match runs::pg(slots, values, ROOM, beta, fates, whens, bys) {
         RunAnswer::Refused(refusal) => {
             let cause = refusal.cause;
             put_refusal(out, cause.number() as u64, refusal.place as u64)

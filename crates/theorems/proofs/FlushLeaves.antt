@@ -78,9 +78,9 @@ module _ (M : Marking) (less : M .lo < M .hi) where
     marked : isMarked marks p ≡ true → (p .value ≡ M .lo) × Behind
 
   -- each marked packet of a queue is lo and has a hi packet behind it
-  abbrev Guarded : List ℕ → List Packet → Type 0
-  Guarded marks [] = Unit {0}
-  Guarded marks (p ∷ queue) = Kept marks p (HasHi queue) × Guarded marks queue
+  abbrev Backed : List ℕ → List Packet → Type 0
+  Backed marks [] = Unit {0}
+  Backed marks (p ∷ queue) = Kept marks p (HasHi queue) × Backed marks queue
 
   same-kept : (marks marks′ : List ℕ) (p : Packet) (Behind : Type 0) → getD marks′ (placeOf (p .number)) 0 ≡ getD marks (placeOf (p .number)) 0
       → Kept marks p Behind → Kept marks′ p Behind
@@ -95,7 +95,7 @@ module _ (M : Marking) (less : M .lo < M .hi) where
       go false h = h
 
   -- the flush
-  hi-stays : (m : PacketNumber) (marks : List ℕ) (queue : List Packet) → Guarded marks queue → HasHi queue → HasHi (unflushed m marks queue)
+  hi-stays : (m : PacketNumber) (marks : List ℕ) (queue : List Packet) → Backed marks queue → HasHi queue → HasHi (unflushed m marks queue)
   unfolding unflushed
   hi-stays m marks [] G h = h
   hi-stays m marks (p ∷ queue) G (inl e) = rw (hi-unmarked marks p (HasHi queue) (G .0) e) (inl e)
@@ -106,7 +106,7 @@ module _ (M : Marking) (less : M .lo < M .hi) where
   some-held [] h = absurd h
   some-held (p ∷ queue) h = omega arith
 
-  leaves : (m : PacketNumber) (marks : List ℕ) (queue : List Packet) → Guarded marks queue → 0 < length queue → 0 < length (unflushed m marks queue)
+  leaves : (m : PacketNumber) (marks : List ℕ) (queue : List Packet) → Backed marks queue → 0 < length queue → 0 < length (unflushed m marks queue)
   unfolding unflushed
   leaves m marks [] G h = h
   leaves m marks (p ∷ queue) G h = go (isMarked marks p) refl
@@ -117,17 +117,17 @@ module _ (M : Marking) (less : M .lo < M .hi) where
           (λ t. some-held (unflushed m marks queue) (hi-stays m marks queue (G .1) (G .0 .marked e .1))) (λ t. omega arith)
       go false e = rw e (omega arith)
 
-  flush-guarded : (m : PacketNumber) (marks : List ℕ) (queue : List Packet) → Guarded marks queue → Guarded marks (unflushed m marks queue)
+  flush-guarded : (m : PacketNumber) (marks : List ℕ) (queue : List Packet) → Backed marks queue → Backed marks (unflushed m marks queue)
   unfolding unflushed
   flush-guarded m marks [] G = tt
   flush-guarded m marks (p ∷ queue) G =
-      cond-cases (Guarded marks) (goesWith m marks p) _ _ (λ e. flush-guarded m marks queue (G .1))
+      cond-cases (Backed marks) (goesWith m marks p) _ _ (λ e. flush-guarded m marks queue (G .1))
       (λ e. (
         record { value = G .0 .value; marked = λ h. (G .0 .marked h .0, hi-stays m marks queue (G .1) (G .0 .marked h .1)) },
         flush-guarded m marks queue (G .1),
       ))
 
-  send-guarded : (now : Slot) (marks : List ℕ) (queue : List Packet) → Guarded marks queue → Guarded marks (sendOldest now queue .next)
+  send-guarded : (now : Slot) (marks : List ℕ) (queue : List Packet) → Backed marks queue → Backed marks (sendOldest now queue .next)
   send-guarded now marks [] G = tt
   send-guarded now marks (p ∷ queue) G = G .1
 
@@ -138,7 +138,7 @@ module _ (M : Marking) (less : M .lo < M .hi) where
   has-append (p ∷ queue) more (inr h) = inr (has-append queue more h)
 
   module _ (marks : List ℕ) (p : Packet) (value : (p .value ≡ M .lo) ⊎ (p .value ≡ M .hi)) (bare : isMarked marks p ≡ false) where
-    append-guarded : (queue : List Packet) → Guarded marks queue → Guarded marks (queue ++ p ∷ [])
+    append-guarded : (queue : List Packet) → Backed marks queue → Backed marks (queue ++ p ∷ [])
     append-guarded [] G = (record { value = value; marked = λ h. absurd (let z : _≡_ {A = ℕ} 0 1 = cc in omega arith) }, tt)
     append-guarded (q ∷ queue) G =
         (record { value = G .0 .value; marked = λ h. (G .0 .marked h .0, has-append queue (p ∷ []) (G .0 .marked h .1)) }, append-guarded queue (G .1))
@@ -149,8 +149,8 @@ module _ (M : Marking) (less : M .lo < M .hi) where
     has-without (x ∷ front) back lost low (inl e) = inl e
     has-without (x ∷ front) back lost low (inr h) = inr (has-without front back lost low h)
 
-    without-guarded : (front back : List Packet) (lost : Packet) → AtLeast (lost .value) (front ++ back) → Guarded marks (front ++ lost ∷ back)
-        → Guarded marks (front ++ back)
+    without-guarded : (front back : List Packet) (lost : Packet) → AtLeast (lost .value) (front ++ back) → Backed marks (front ++ lost ∷ back)
+        → Backed marks (front ++ back)
     without-guarded [] back lost A G = G .1
     without-guarded (x ∷ front) back lost A G = (
       record {
@@ -162,14 +162,14 @@ module _ (M : Marking) (less : M .lo < M .hi) where
       without-guarded front back lost (A .1) (G .1),
     )
 
-    arrive-guarded : (room : ℕ) (queue : List Packet) → Guarded marks queue → Guarded marks (greedyRule room queue p .queue)
+    arrive-guarded : (room : ℕ) (queue : List Packet) → Backed marks queue → Backed marks (greedyRule room queue p .queue)
     arrive-guarded room queue G =
         let more = append-guarded queue G in
-        below-cases {A = ℕ} (λ k. Guarded marks (greedyRule room queue p .queue)) (length queue) room 0 0
-        (λ some. subst (Guarded marks) (sym (greedy-pushes-out room .holds queue p some)) more)
+        below-cases {A = ℕ} (λ k. Backed marks (greedyRule room queue p .queue)) (length queue) room 0 0
+        (λ some. subst (Backed marks) (sym (greedy-pushes-out room .holds queue p some)) more)
         (λ full.
         let L = greedy-pushes-out room .loses queue p full in
-        subst (Guarded marks) (sym (L .stay)) (without-guarded (L .front) (L .back) (L .lost) (L .low) (subst (Guarded marks) (L .were) more)))
+        subst (Backed marks) (sym (L .stay)) (without-guarded (L .front) (L .back) (L .lost) (L .low) (subst (Backed marks) (L .were) more)))
 
   -- the marks: of the packets older than a place, newest first, where Behind says that a hi packet is behind them
   abbrev Older : List ℕ → List Packet → Type 0 → Type 0
@@ -208,7 +208,7 @@ module _ (M : Marking) (less : M .lo < M .hi) where
 
   -- the packets from a number on keep what they have where marks change only before it
   behind-same : (low last : ℕ) (queue : List Packet) (marks marks′ : List ℕ) → ((k : ℕ) → low ≤ k → getD marks′ k 0 ≡ getD marks k 0)
-      → Rising low last queue → Guarded marks queue → Guarded marks′ queue
+      → Rising low last queue → Backed marks queue → Backed marks′ queue
   behind-same low last [] marks marks′ e R G = tt
   behind-same low last (p ∷ queue) marks marks′ e R G = (
     same-kept marks marks′ p (HasHi queue) (e (placeOf (p .number)) (omega (arith, R .0))) (G .0),
@@ -220,14 +220,14 @@ module _ (M : Marking) (less : M .lo < M .hi) where
   joined [] rest = rest
   joined (p ∷ older) rest = joined older (p ∷ rest)
 
-  join-guarded : (older rest : List Packet) (marks : List ℕ) → Older marks older (HasHi rest) → Guarded marks rest → Guarded marks (joined older rest)
+  join-guarded : (older rest : List Packet) (marks : List ℕ) → Older marks older (HasHi rest) → Backed marks rest → Backed marks (joined older rest)
   join-guarded [] rest marks O G = G
   join-guarded (p ∷ older) rest marks O G = join-guarded older (p ∷ rest) marks (O .1) (O .0, G)
 
   module _ (slots : List ℕ) (now : Slot) where
     from-guarded : (low last : ℕ) (older queue behind : List Packet) (marks : List ℕ) → Falling (suc low) older → Rising low last (queue ++ behind)
-        → Older marks older (HasHi (queue ++ behind)) → Guarded marks (queue ++ behind)
-        → Guarded (markFrom M slots now older queue marks) (joined older (queue ++ behind))
+        → Older marks older (HasHi (queue ++ behind)) → Backed marks (queue ++ behind)
+        → Backed (markFrom M slots now older queue marks) (joined older (queue ++ behind))
     unfolding markFrom
     from-guarded low last older [] behind marks F R O G = join-guarded older behind marks O G
     from-guarded low last older (p ∷ queue) behind marks F R O G =
@@ -235,7 +235,7 @@ module _ (M : Marking) (less : M .lo < M .hi) where
         let isHi = eqb (p .value) (M .hi) in
         let arrived = eqb (slotOf slots (p .number) .0) (now .0) in
         let both =
-        cond-cases (λ (ms : List ℕ). Older ms older (HasHi (p ∷ rest)) × Guarded ms (p ∷ rest)) (isHi && arrived) (markDown (M .lo) (M .r) (p .number) older marks) marks
+        cond-cases (λ (ms : List ℕ). Older ms older (HasHi (p ∷ rest)) × Backed ms (p ∷ rest)) (isHi && arrived) (markDown (M .lo) (M .r) (p .number) older marks) marks
         (λ e. (
           down-guarded (p .number) (M .r) (suc low) older marks (HasHi (p ∷ rest)) (inl (eqb-true (p .value) (M .hi) (and-eq-true-iff isHi arrived .0 e .0))) F O,
           behind-same low last (p ∷ rest) marks _ (λ k h. down-other (M .lo) (p .number) (M .r) (suc low) k older marks (omega arith) F) R G,
@@ -245,12 +245,12 @@ module _ (M : Marking) (less : M .lo < M .hi) where
         from-guarded (p .number .0) last (p ∷ older) queue behind _
         (omega (arith, R .0), omega arith, falling-wider (suc low) (p .number .0) older (R .0) F) (R .1) (both .1 .0, both .0) (both .1 .1)
 
-    marks-guarded : (room last : ℕ) (queue : List Packet) (marks : List ℕ) → Rising 0 last queue → Guarded marks queue
-        → Guarded (markFrom M slots now [] (take (room - 1) queue) marks) queue
+    marks-guarded : (room last : ℕ) (queue : List Packet) (marks : List ℕ) → Rising 0 last queue → Backed marks queue
+        → Backed (markFrom M slots now [] (take (room - 1) queue) marks) queue
     marks-guarded room last queue marks R G =
         let whole = take-append-drop (room - 1) queue in
-        subst (Guarded (markFrom M slots now [] (take (room - 1) queue) marks)) whole
-        (from-guarded 0 last [] (take (room - 1) queue) (drop (room - 1) queue) marks tt (subst (Rising 0 last) (sym whole) R) tt (subst (Guarded marks) (sym whole) G))
+        subst (Backed (markFrom M slots now [] (take (room - 1) queue) marks)) whole
+        (from-guarded 0 last [] (take (room - 1) queue) (drop (room - 1) queue) marks tt (subst (Rising 0 last) (sym whole) R) tt (subst (Backed marks) (sym whole) G))
 
   module _ (room : ℕ) (slots : List ℕ) where
     abbrev P : Policy Marked
@@ -260,7 +260,7 @@ module _ (M : Marking) (less : M .lo < M .hi) where
     record Stand (last : ℕ) (s : Marked) : Type 0 where
       rising : Rising 0 last (s .queue)
       fresh : (k : ℕ) → last ≤ k → getD (s .marks) k 0 ≡ 0
-      guarded : Guarded (s .marks) (s .queue)
+      guarded : Backed (s .marks) (s .queue)
 
     finish-stands : (last : ℕ) (now : Slot) (s : Marked) → Stand last s → Stand last (P .finish now s .next)
     finish-stands last now s T =

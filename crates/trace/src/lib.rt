@@ -212,7 +212,7 @@ fn in_order(
 }
 
 // The test for plain greedy, the audit and the offline plan.
-pub fn plain(
+pub fn check_plain(
     slots: &[u32],
     values: &[u32],
     room: usize,
@@ -234,7 +234,7 @@ pub fn plain(
     )
 }
 
-pub fn pg(
+pub fn check_pg(
     slots: &[u32],
     values: &[u32],
     room: usize,
@@ -257,7 +257,7 @@ pub fn pg(
     )
 }
 
-pub fn mf(
+pub fn check_mf(
     slots: &[u32],
     values: &[u32],
     room: usize,

@@ -14,16 +14,16 @@ use Rattle.laws.proofs.Accepted.{Accepted, accepted}
 use Rattle.audit.proofs.audit.Statement.{statement}
 use Rattle.model.specs.Record.{listsOf, Lists, rows}
 
-abbrev start : tie.After-plain → tie.Start
+abbrev start : tie.After-check-plain → tie.Start
 start c = c .before .before .before .before .before .before
 
-abbrev lists : tie.After-plain → Lists
+abbrev lists : tie.After-check-plain → Lists
 lists c = let a = start c .args in listsOf (a .fates .now) (a .whens .now) (a .bys .now)
 
 -- the trace was accepted
 passed : (c : tie.After-enum-told) → let p = c .before .before in let a = start p .args in
     clear ≡ plainRefusal (a .slots .now) (a .values .now) (a .room) (lists p)
-passed c = ap verdictOf (sym (c .enum-told .given .1)) ∙ c .before .before .plain .ensures
+passed c = ap verdictOf (sym (c .enum-told .given .1)) ∙ c .before .before .check-plain .ensures
 
 tested : (c : tie.After-enum-told) → let p = c .before .before in let a = start p .args in
     Accepted valueOk (a .slots .now) (a .values .now) (a .room) (lists p)
@@ -38,8 +38,8 @@ swept : (c : tie.After-sweep) → let p = c .before .before .before in let a = s
     SweptAs (bufferOf (a .slots .now) (a .room)) (rows (arrivals (a .slots .now) (a .values .now)) (lists p)) (c .sweep .result)
 swept c = c .sweep .ensures
 
-plain-requires : tie.Need-plain-requires
-plain-requires c κs = search needs
+check-plain-requires : tie.Need-check-plain-requires
+check-plain-requires c κs = search needs
 
 enum-known-refusal : tie.Need-enum-known-refusal
 enum-known-refusal c = search needs
@@ -49,7 +49,7 @@ returns c =
     let p = c .before .before .before in
     let a = start p .args in
     on-refused (a .slots .now) (a .values .now) (a .room) (lists p) (c .before .refusal .given .0 .0)
-    (ap verdictOf (sym (c .before .refusal .given .1)) ∙ p .plain .ensures)
+    (ap verdictOf (sym (c .before .refusal .given .1)) ∙ p .check-plain .ensures)
 
 enum-told : tie.Need-enum-told
 enum-told c = search needs
@@ -98,7 +98,7 @@ pub audit-spec : {M : Type 1} → statement M
 audit-spec =
     tie.close
     (tie.spec
-    plain-requires
+    check-plain-requires
     enum-known-refusal
     returns
     enum-told

@@ -2,11 +2,11 @@
 use borrow.Author.Needs.{needs}
 use native.Mathlib.Omega.{arith}
 use mathlib.Core.Path.{sym, ap, _∙_}
-use Rattle.faults.specs.Faults.{rowOf}
+use Rattle.audit_faults.specs.Faults.{rowOf}
 use Rattle.audit.proofs.leave_of.Tie as tie
 use Rattle.model.specs.Record.{fateNumber}
 use Rattle.audit.proofs.Fates.{leave-test}
-use Rattle.faults.proofs.Fates.{by-test, by-range}
+use Rattle.audit_faults.proofs.Fates.{by-test, by-range}
 use Rattle.model.specs.declared.Fate.the-variants.{Sent, Rejected, PushedOut, Preempted, Flushed}
 use Rattle.audit.proofs.leave_of.Statement.{statement}
 
@@ -31,7 +31,7 @@ cast-result c = search needs
 sub-result : tie.Need-sub-result
 sub-result c =
     let start = c .before .before .before .before in
-    let row = rowOf (start .args .entry) in
+    let row = rowOf (start .args .row) in
     let range = by-range _ row (sym (by-test PushedOut _ row (ap fateNumber (c .before .enum-told3 .given .1))) ∙ start .pre .1) in
     omega arith
 
@@ -44,7 +44,7 @@ cast-result-2 c = search needs
 sub-result-2 : tie.Need-sub-result-2
 sub-result-2 c =
     let start = c .before .before .before .before in
-    let row = rowOf (start .args .entry) in
+    let row = rowOf (start .args .row) in
     let range = by-range _ row (sym (by-test Preempted _ row (ap fateNumber (c .before .enum-told4 .given .1))) ∙ start .pre .1) in
     omega arith
 
@@ -58,19 +58,19 @@ up-to-requires-2 : tie.Need-up-to-requires-2
 up-to-requires-2 c κs = search needs
 
 returns : tie.Need-returns
-returns c = c .up-to .ensures ∙ sym (leave-test Sent _ (rowOf (c .before .before .before .before .before .args .entry)) (ap fateNumber (c .before .before .enum-told .given .1)))
+returns c = c .up-to .ensures ∙ sym (leave-test Sent _ (rowOf (c .before .before .before .before .before .args .row)) (ap fateNumber (c .before .before .enum-told .given .1)))
 
 returns-2 : tie.Need-returns-2
-returns-2 c = sym (leave-test Rejected _ (rowOf (c .before .before .before .args .entry)) (ap fateNumber (c .enum-told2 .given .1)))
+returns-2 c = sym (leave-test Rejected _ (rowOf (c .before .before .before .args .row)) (ap fateNumber (c .enum-told2 .given .1)))
 
 returns-3 : tie.Need-returns-3
-returns-3 c = sym (leave-test PushedOut _ (rowOf (c .before .before .before .before .args .entry)) (ap fateNumber (c .before .enum-told3 .given .1)))
+returns-3 c = sym (leave-test PushedOut _ (rowOf (c .before .before .before .before .args .row)) (ap fateNumber (c .before .enum-told3 .given .1)))
 
 returns-4 : tie.Need-returns-4
-returns-4 c = sym (leave-test Preempted _ (rowOf (c .before .before .before .before .args .entry)) (ap fateNumber (c .before .enum-told4 .given .1)))
+returns-4 c = sym (leave-test Preempted _ (rowOf (c .before .before .before .before .args .row)) (ap fateNumber (c .before .enum-told4 .given .1)))
 
 returns-5 : tie.Need-returns-5
-returns-5 c = c .up-to2 .ensures ∙ sym (leave-test Flushed _ (rowOf (c .before .before .before .before .before .args .entry)) (ap fateNumber (c .before .before .enum-told5 .given .1)))
+returns-5 c = c .up-to2 .ensures ∙ sym (leave-test Flushed _ (rowOf (c .before .before .before .before .before .args .row)) (ap fateNumber (c .before .before .enum-told5 .given .1)))
 
 pub leave-of-spec : {M : Type 1} → statement M
 leave-of-spec =

@@ -7,13 +7,13 @@ use mathlib.Core.List.{List}
 use Prim.Native.Nat.{ℕ, _-_, _≤_, _<_}
 use native.Mathlib.Omega.{arith}
 use native.Mathlib.Numerals.{add-one}
-use Rattle.faults.specs.Faults.{foundOf, entryFault}
+use Rattle.audit_faults.specs.Faults.{foundOf, rowFault}
 use Rattle.audit.proofs.Kept.{Kept, kept-start, kept-end, turn-outside}
 use Rattle.audit.proofs.Turn as turn
 use Rattle.audit.specs.Rows.{rowAt, Reads}
-use Rattle.faults.specs.Faults.{rowOf}
+use Rattle.audit_faults.specs.Faults.{rowOf}
 use Rattle.audit.specs.declared.Read.{Read}
-use Rattle.faults.specs.declared.Found.{Found}
+use Rattle.audit_faults.specs.declared.Found.{Found}
 use Rattle.audit.proofs.sweep.Tie as tie
 use Rattle.model.specs.Answers.{faultNumber}
 use Rattle.audit.proofs.sweep.Statement.{statement}
@@ -21,7 +21,7 @@ use Rattle.model.specs.Limits.{recordLimits}
 use Rattle.model.specs.Record.{Lists, Row, listsOf}
 use Rattle.audit.proofs.Turn.{Turn}
 use Rattle.model.specs.Rules.{clear, verdictIf}
-use Rattle.faults.specs.declared.Entry.{Entry}
+use Rattle.audit_faults.specs.declared.FatedRow.{FatedRow}
 
 abbrev Inv-loop : tie.InvT-loop
 Inv-loop slots values room fates whens bys leaving₀ held₀ most₀ last₀ i₀ leaving held most last i =
@@ -45,17 +45,17 @@ row c = rowAt (start c .args .slots .now) (start c .args .values .now) (lists c)
 abbrev head : tie.After-known-told Inv-loop μ-loop → tie.At-loop Inv-loop μ-loop
 head c = c .before .before .before .before .before
 
-abbrev entry : tie.After-known-told Inv-loop μ-loop → Entry
-entry c = c .before .entry .given .0 .0
+abbrev given-row : tie.After-known-told Inv-loop μ-loop → FatedRow
+given-row c = c .before .row .given .0 .0
 
 at-turn : (c : tie.After-known-told Inv-loop μ-loop) → let a = start (head c) .args in let l = head c .loop in
-    Turn (a .slots .now) (a .values .now) (a .room) (lists (head c)) (l .i) (l .held) (l .most) (l .last) (l .leaving) (rowOf (entry c)) (entry c .fate)
+    Turn (a .slots .now) (a .values .now) (a .room) (lists (head c)) (l .i) (l .held) (l .most) (l .last) (l .leaving) (rowOf (given-row c)) (given-row c .fate)
 at-turn c =
     record {
       tested = start (head c) .pre;
       kept = head c .loop .inv;
       here = omega (arith, c .before .before .before .before .loop-test .taken);
-      row-is = subst (λ (x : Read). Reads (row (head c)) x) (c .before .entry .given .1) (c .before .before .before .entry-at .ensures);
+      row-is = subst (λ (x : Read). Reads (row (head c)) x) (c .before .row .given .1) (c .before .before .before .row-at .ensures);
       fate-is = refl;
     }
 
@@ -64,9 +64,9 @@ abbrev found : tie.After-enum-told2 Inv-loop μ-loop → tie.After-known-told In
 found c = c .before .before .before
 
 clear-here : (c : tie.After-enum-told2 Inv-loop μ-loop)
-    → entryFault (start (head (found c)) .args .slots .now) (head (found c) .loop .last .0) (rowOf (entry (found c))) ≡ clear
+    → rowFault (start (head (found c)) .args .slots .now) (head (found c) .loop .last .0) (rowOf (given-row (found c))) ≡ clear
 clear-here c =
-    sym (c .before .before .fault-of .ensures) ∙ ap (λ (x : Found). foundOf x (entry (found c) .number)) (c .enum-told2 .given .1)
+    sym (c .before .before .fault-of .ensures) ∙ ap (λ (x : Found). foundOf x (given-row (found c) .number)) (c .enum-told2 .given .1)
 
 -- where it is known how long it stays
 abbrev clear-at : tie.After-only-if Inv-loop μ-loop → tie.After-enum-told2 Inv-loop μ-loop
@@ -101,8 +101,8 @@ loop-holds c =
     let a = first .args in
     kept-start (a .slots .now) (a .values .now) (a .room) (listsOf (a .fates .now) (a .whens .now) (a .bys .now)) _ refl (first .pre .few)
 
-entry-at-requires : tie.Need-entry-at-requires Inv-loop μ-loop
-entry-at-requires c κs =
+row-at-requires : tie.Need-row-at-requires Inv-loop μ-loop
+row-at-requires c κs =
     let t = start (c .before) .pre in
     record {
       in-slots = omega arith;
@@ -113,8 +113,8 @@ entry-at-requires c κs =
       few = omega (arith, t .few);
     }
 
-enum-known-entry : tie.Need-enum-known-entry Inv-loop μ-loop
-enum-known-entry c = search needs
+enum-known-row : tie.Need-enum-known-row Inv-loop μ-loop
+enum-known-row c = search needs
 
 enum-told : tie.Need-enum-told Inv-loop μ-loop
 enum-told c = search needs
@@ -130,7 +130,7 @@ returns c =
     let l = at-loop .loop in
     rw (c .faulty .ensures)
     (turn-outside (a .slots .now) (a .values .now) (a .room) (lists at-loop) (l .i) (l .held) (l .most) (l .last .0) (l .leaving) (start at-loop .pre) (l .inv) (omega (arith, in-loop .loop-test .taken))
-    (subst (λ (x : Read). Reads (row at-loop) x) (c .before .enum-told .given .1) (c .before .before .before .entry-at .ensures)))
+    (subst (λ (x : Read). Reads (row at-loop) x) (c .before .enum-told .given .1) (c .before .before .before .row-at .ensures)))
 
 fault-of-requires : tie.Need-fault-of-requires Inv-loop μ-loop
 fault-of-requires c κs = search needs
@@ -151,7 +151,7 @@ returns-2 c =
     rw (c .faulty2 .ensures)
     (turn.on-fault (at-turn known) g
     (sym (said .before .before .fault-of .ensures)
-    ∙ ap (λ (x : Found). foundOf x (entry known .number)) (said .fault .given .1)
+    ∙ ap (λ (x : Found). foundOf x (given-row known .number)) (said .fault .given .1)
     ∙ ap (λ (n : ℕ). verdictIf true (faultNumber g) n) (ap (λ (x : Row). x .number .0) (at-turn known .row-is) ∙ sym (add-one (head known .loop .i)))))
 
 enum-told-2 : tie.Need-enum-told-2 Inv-loop μ-loop
@@ -237,8 +237,8 @@ sweep-spec =
     Inv-loop
     μ-loop
     loop-holds
-    entry-at-requires
-    enum-known-entry
+    row-at-requires
+    enum-known-row
     enum-told
     faulty-requires
     returns

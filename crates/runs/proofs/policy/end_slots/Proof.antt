@@ -3,7 +3,7 @@ use Rattle.model.specs.Record.{listsOf}
 use Rattle.steps.specs.Window.{windowOf}
 use Rattle.steps.specs.Step.{sending}
 use Rattle.steps.proofs.Lending.{sent-steps}
-use Rattle.flush.proofs.Leaving.{ends-finish}
+use Rattle.mf_flush.proofs.Leaving.{ends-finish}
 use Rattle.runs.proofs.Turning.{queue-done}
 use borrow.Author.Needs.{needs}
 use Rattle.runs.proofs.policy.end_slots.Statement.{statement}

@@ -46,21 +46,21 @@ add-number c = search needs
 cast-number : tie.Need-cast-number Inv-loop μ-loop
 cast-number c = search needs
 
-slice-aggregate-take : tie.Need-slice-aggregate-take Inv-loop μ-loop
-slice-aggregate-take c = search needs
+slice-aggregate-turn : tie.Need-slice-aggregate-turn Inv-loop μ-loop
+slice-aggregate-turn c = search needs
 
-slice-aggregate-take-2 : tie.Need-slice-aggregate-take-2 Inv-loop μ-loop
-slice-aggregate-take-2 c = search needs
+slice-aggregate-turn-2 : tie.Need-slice-aggregate-turn-2 Inv-loop μ-loop
+slice-aggregate-turn-2 c = search needs
 
-take-requires : tie.Need-take-requires Inv-loop μ-loop
-take-requires c κs =
+turn-requires : tie.Need-turn-requires Inv-loop μ-loop
+turn-requires c κs =
     let start = c .before .before .before .before .before .before .before .before .before .before .before .before .before .before in
     let a = start .args in
     let loop = c .before .before .before .before .before .before .before .before .loop in
-    (loop .inv .3 .within, (ruled-free (ruleOf (a .room) (a .rule)) (a .slots .now) (a .values .now) (listsOf (a .fates .now) (a .whens .now) (a .bys .now)) (start .pre .0) (loop .numbers) (loop .held) (loop .w .head) (loop .w .tail) (loop .last .0) (loop .most) (loop .i) (listsOf (loop .fates) (loop .whens) (loop .bys)) (loop .inv .3), start .pre .1))
+    (loop .inv .3 .within, (ruled-free (ruleOf (a .room) (a .rule)) (a .slots .now) (a .values .now) (listsOf (a .fates .now) (a .whens .now) (a .bys .now)) (start .pre .0) (loop .numbers) (loop .held-values) (loop .w .head) (loop .w .tail) (loop .last .0) (loop .most) (loop .i) (listsOf (loop .fates) (loop .whens) (loop .bys)) (loop .inv .3), start .pre .1))
 
 sub-length : tie.Need-sub-length Inv-loop μ-loop
-sub-length c = omega (arith, c .before .before .before .before .before .before .before .before .before .take .ensures .within .ordered)
+sub-length c = omega (arith, c .before .before .before .before .before .before .before .before .before .turn .ensures .within .ordered)
 
 add-i : tie.Need-add-i Inv-loop μ-loop
 add-i c = omega (arith, c .before .before .before .before .before .before .before .before .before .before .before .before .before .before .before .before .before .before .loop-test .taken, c .before .before .before .before .before .before .before .before .before .before .before .before .before .before .before .before .before .before .before .before .before .before .before .before .before .pre .0 .few)
@@ -73,12 +73,12 @@ loop-again c =
     let start = c .before .before .before .before .before .before .before .before .before .before .before .before .before .before .before .before .before .before .before .before .before .before .before .before .before in
     let a = start .args in
     let loop = c .before .before .before .before .before .before .before .before .before .before .before .before .before .before .before .before .before .before .before .loop in
-    let taken = c .before .before .before .before .before .before .before .before .before .before .take in
+    let taken = c .before .before .before .before .before .before .before .before .before .before .turn in
     let most : c .if1 .most ≡ max (loop .most) (taken .result .tail - taken .result .head) = ⊎-elim (λ w. omega arith) (λ w. omega arith) (c .if1 .came) in (
       taken .kept .1 .1 .0 ∙ loop .inv .0,
       taken .kept .1 .1 .1 .0 ∙ loop .inv .1,
       taken .kept .1 .1 .1 .1 .0 ∙ loop .inv .2,
-      ruled-turn (ruleOf (a .room) (a .rule)) (a .slots .now) (a .values .now) (listsOf (a .fates .now) (a .whens .now) (a .bys .now)) (start .pre .0) (loop .numbers) (loop .held) (loop .w .head) (loop .w .tail) (loop .last .0) (loop .most) (loop .i) (listsOf (loop .fates) (loop .whens) (loop .bys)) (loop .inv .3) (c .before .before .before .before .before .before .before .before .before .before .before .before .before .before .before .before .before .before .loop-test .taken)
+      ruled-turn (ruleOf (a .room) (a .rule)) (a .slots .now) (a .values .now) (listsOf (a .fates .now) (a .whens .now) (a .bys .now)) (start .pre .0) (loop .numbers) (loop .held-values) (loop .w .head) (loop .w .tail) (loop .last .0) (loop .most) (loop .i) (listsOf (loop .fates) (loop .whens) (loop .bys)) (loop .inv .3) (c .before .before .before .before .before .before .before .before .before .before .before .before .before .before .before .before .before .before .loop-test .taken)
           (taken .result) (taken .last .0) (taken .last .1 .0) (listsOf (taken .last .1 .1 .0) (taken .last .1 .1 .1 .0) (taken .last .1 .1 .1 .1 .0)) (c .if1 .most) (taken .ensures) (taken .kept .1 .0) most,
     )
 
@@ -90,14 +90,14 @@ cast-slots-left c =
     let start = c .before .before .before .before .before .before .before .before in
     let a = start .args in
     let loop = c .before .before .loop in
-    omega (arith, ruled-free (ruleOf (a .room) (a .rule)) (a .slots .now) (a .values .now) (listsOf (a .fates .now) (a .whens .now) (a .bys .now)) (start .pre .0) (loop .numbers) (loop .held) (loop .w .head) (loop .w .tail) (loop .last .0) (loop .most) (loop .i) (listsOf (loop .fates) (loop .whens) (loop .bys)) (loop .inv .3), loop .inv .3 .places)
+    omega (arith, ruled-free (ruleOf (a .room) (a .rule)) (a .slots .now) (a .values .now) (listsOf (a .fates .now) (a .whens .now) (a .bys .now)) (start .pre .0) (loop .numbers) (loop .held-values) (loop .w .head) (loop .w .tail) (loop .last .0) (loop .most) (loop .i) (listsOf (loop .fates) (loop .whens) (loop .bys)) (loop .inv .3), loop .inv .3 .places)
 
 add-end : tie.Need-add-end Inv-loop μ-loop
 add-end c =
     let start = c .before .before .before .before .before .before .before .before .before in
     let a = start .args in
     let loop = c .before .before .before .loop in
-    omega (arith, ruled-free (ruleOf (a .room) (a .rule)) (a .slots .now) (a .values .now) (listsOf (a .fates .now) (a .whens .now) (a .bys .now)) (start .pre .0) (loop .numbers) (loop .held) (loop .w .head) (loop .w .tail) (loop .last .0) (loop .most) (loop .i) (listsOf (loop .fates) (loop .whens) (loop .bys)) (loop .inv .3), loop .inv .3 .places, loop .inv .3 .course .last-fits)
+    omega (arith, ruled-free (ruleOf (a .room) (a .rule)) (a .slots .now) (a .values .now) (listsOf (a .fates .now) (a .whens .now) (a .bys .now)) (start .pre .0) (loop .numbers) (loop .held-values) (loop .w .head) (loop .w .tail) (loop .last .0) (loop .most) (loop .i) (listsOf (loop .fates) (loop .whens) (loop .bys)) (loop .inv .3), loop .inv .3 .places, loop .inv .3 .course .last-fits)
 
 slice-aggregate-send-until : tie.Need-slice-aggregate-send-until Inv-loop μ-loop
 slice-aggregate-send-until c = search needs
@@ -127,9 +127,9 @@ returns c =
     let loop = c .before .before .before .before .before .before .before .before .before .before .before .before .before .before .before .loop in
     let sent = c .before .before .before .before .before .before .send-until in
     let after = listsOf (sent .last .1 .1 .0) (sent .last .1 .1 .1 .0) (sent .last .1 .1 .1 .1 .0) in
-    ruled-end (ruleOf (a .room) (a .rule)) (a .slots .now) (a .values .now) (listsOf (a .fates .now) (a .whens .now) (a .bys .now)) (start .pre .0) (loop .numbers) (loop .held) (loop .w .head) (loop .w .tail) (loop .last .0) (loop .most) (loop .i) (listsOf (loop .fates) (loop .whens) (loop .bys)) (loop .inv .3) (c .before .before .before .before .before .before .before .before .before .before .before .before .before .before .loop-test .left)
+    ruled-end (ruleOf (a .room) (a .rule)) (a .slots .now) (a .values .now) (listsOf (a .fates .now) (a .whens .now) (a .bys .now)) (start .pre .0) (loop .numbers) (loop .held-values) (loop .w .head) (loop .w .tail) (loop .last .0) (loop .most) (loop .i) (listsOf (loop .fates) (loop .whens) (loop .bys)) (loop .inv .3) (c .before .before .before .before .before .before .before .before .before .before .before .before .before .before .loop-test .left)
     (sent .result) after (record { 0 = loop .last .0 + (loop .w .tail - loop .w .head) }) refl
-    (sent-steps (loop .w) (loop .numbers) (loop .held) (loop .inv .3 .within) (loop .last) (record { 0 = loop .last .0 + (loop .w .tail - loop .w .head) }) (listsOf (loop .fates) (loop .whens) (loop .bys)) after (sent .result) (sent .ensures))
+    (sent-steps (loop .w) (loop .numbers) (loop .held-values) (loop .inv .3 .within) (loop .last) (record { 0 = loop .last .0 + (loop .w .tail - loop .w .head) }) (listsOf (loop .fates) (loop .whens) (loop .bys)) after (sent .result) (sent .ensures))
 
 pub run-rule-spec : {M : Type 1} → statement M
 run-rule-spec =
@@ -144,9 +144,9 @@ run-rule-spec =
     shared-slice-read-value
     add-number
     cast-number
-    slice-aggregate-take
-    slice-aggregate-take-2
-    take-requires
+    slice-aggregate-turn
+    slice-aggregate-turn-2
+    turn-requires
     sub-length
     add-i
     loop-less

@@ -45,21 +45,21 @@ add-number c = search needs
 cast-number : tie.Need-cast-number Inv-loop μ-loop
 cast-number c = search needs
 
-slice-aggregate-take : tie.Need-slice-aggregate-take Inv-loop μ-loop
-slice-aggregate-take c = search needs
+slice-aggregate-turn : tie.Need-slice-aggregate-turn Inv-loop μ-loop
+slice-aggregate-turn c = search needs
 
-slice-aggregate-take-2 : tie.Need-slice-aggregate-take-2 Inv-loop μ-loop
-slice-aggregate-take-2 c = search needs
+slice-aggregate-turn-2 : tie.Need-slice-aggregate-turn-2 Inv-loop μ-loop
+slice-aggregate-turn-2 c = search needs
 
-take-requires : tie.Need-take-requires Inv-loop μ-loop
-take-requires c κs =
+turn-requires : tie.Need-turn-requires Inv-loop μ-loop
+turn-requires c κs =
     let start = c .before .before .before .before .before .before .before .before .before .before .before .before .before .before .before .before .before in
     let a = start .args in
     let loop = c .before .before .before .before .before .before .before .before .before .loop in
-    (loop .inv .4 .within, going-free (a .policy) (a .slots .now) (a .values .now) (a .kept .now) (a .marks .now) (listsOf (a .fates .now) (a .whens .now) (a .bys .now)) (start .pre) (loop .numbers) (loop .held) (loop .marks) (loop .w .head) (loop .w .tail) (loop .last .0) (loop .most) (loop .i) (listsOf (loop .fates) (loop .whens) (loop .bys)) (loop .inv .4))
+    (loop .inv .4 .within, going-free (a .policy) (a .slots .now) (a .values .now) (a .kept .now) (a .marks .now) (listsOf (a .fates .now) (a .whens .now) (a .bys .now)) (start .pre) (loop .numbers) (loop .held-values) (loop .marks) (loop .w .head) (loop .w .tail) (loop .last .0) (loop .most) (loop .i) (listsOf (loop .fates) (loop .whens) (loop .bys)) (loop .inv .4))
 
 sub-length : tie.Need-sub-length Inv-loop μ-loop
-sub-length c = omega (arith, c .before .before .before .before .before .before .before .before .before .before .before .take .ensures .within .ordered)
+sub-length c = omega (arith, c .before .before .before .before .before .before .before .before .before .before .before .turn .ensures .within .ordered)
 
 add-i : tie.Need-add-i Inv-loop μ-loop
 add-i c = omega (arith, c .before .before .before .before .before .before .before .before .before .before .before .before .before .before .before .before .before .before .before .before .before .loop-test .taken, c .before .before .before .before .before .before .before .before .before .before .before .before .before .before .before .before .before .before .before .before .before .before .before .before .before .before .before .before .before .before .pre .few)
@@ -72,13 +72,13 @@ loop-again c =
     let start = c .before .before .before .before .before .before .before .before .before .before .before .before .before .before .before .before .before .before .before .before .before .before .before .before .before .before .before .before .before .before in
     let a = start .args in
     let loop = c .before .before .before .before .before .before .before .before .before .before .before .before .before .before .before .before .before .before .before .before .before .before .loop in
-    let taken = c .before .before .before .before .before .before .before .before .before .before .before .before .take in
+    let taken = c .before .before .before .before .before .before .before .before .before .before .before .before .turn in
     let most : c .if1 .most ≡ max (loop .most) (taken .result .tail - taken .result .head) = ⊎-elim (λ w. omega arith) (λ w. omega arith) (c .if1 .came) in (
       taken .kept .1 .1 .1 .1 .0 ∙ loop .inv .0,
       taken .kept .1 .1 .1 .1 .1 .0 ∙ loop .inv .1,
       taken .kept .1 .1 .1 .1 .1 .1 .0 ∙ loop .inv .2,
       taken .kept .1 .1 .1 .1 .1 .1 .1 .0 ∙ loop .inv .3,
-      going-turn (a .policy) (a .slots .now) (a .values .now) (a .kept .now) (a .marks .now) (listsOf (a .fates .now) (a .whens .now) (a .bys .now)) (start .pre) (loop .numbers) (loop .held) (loop .marks) (loop .w .head) (loop .w .tail) (loop .last .0) (loop .most) (loop .i) (listsOf (loop .fates) (loop .whens) (loop .bys)) (loop .inv .4) (c .before .before .before .before .before .before .before .before .before .before .before .before .before .before .before .before .before .before .before .before .before .loop-test .taken)
+      going-turn (a .policy) (a .slots .now) (a .values .now) (a .kept .now) (a .marks .now) (listsOf (a .fates .now) (a .whens .now) (a .bys .now)) (start .pre) (loop .numbers) (loop .held-values) (loop .marks) (loop .w .head) (loop .w .tail) (loop .last .0) (loop .most) (loop .i) (listsOf (loop .fates) (loop .whens) (loop .bys)) (loop .inv .4) (c .before .before .before .before .before .before .before .before .before .before .before .before .before .before .before .before .before .before .before .before .before .loop-test .taken)
           (taken .result) (taken .last .0) (taken .last .1 .0) (taken .last .1 .1 .1 .1 .0) (listsOf (taken .last .1 .1 .1 .1 .1 .0) (taken .last .1 .1 .1 .1 .1 .1 .0) (taken .last .1 .1 .1 .1 .1 .1 .1 .0)) (c .if1 .most) (taken .ensures) (taken .kept .1 .0) most,
     )
 
@@ -90,14 +90,14 @@ cast-slots-left c =
     let start = c .before .before .before .before .before .before .before .before .before .before in
     let a = start .args in
     let loop = c .before .before .loop in
-    omega (arith, going-free (a .policy) (a .slots .now) (a .values .now) (a .kept .now) (a .marks .now) (listsOf (a .fates .now) (a .whens .now) (a .bys .now)) (start .pre) (loop .numbers) (loop .held) (loop .marks) (loop .w .head) (loop .w .tail) (loop .last .0) (loop .most) (loop .i) (listsOf (loop .fates) (loop .whens) (loop .bys)) (loop .inv .4), loop .inv .4 .places)
+    omega (arith, going-free (a .policy) (a .slots .now) (a .values .now) (a .kept .now) (a .marks .now) (listsOf (a .fates .now) (a .whens .now) (a .bys .now)) (start .pre) (loop .numbers) (loop .held-values) (loop .marks) (loop .w .head) (loop .w .tail) (loop .last .0) (loop .most) (loop .i) (listsOf (loop .fates) (loop .whens) (loop .bys)) (loop .inv .4), loop .inv .4 .places)
 
 add-end : tie.Need-add-end Inv-loop μ-loop
 add-end c =
     let start = c .before .before .before .before .before .before .before .before .before .before .before in
     let a = start .args in
     let loop = c .before .before .before .loop in
-    omega (arith, going-free (a .policy) (a .slots .now) (a .values .now) (a .kept .now) (a .marks .now) (listsOf (a .fates .now) (a .whens .now) (a .bys .now)) (start .pre) (loop .numbers) (loop .held) (loop .marks) (loop .w .head) (loop .w .tail) (loop .last .0) (loop .most) (loop .i) (listsOf (loop .fates) (loop .whens) (loop .bys)) (loop .inv .4), loop .inv .4 .places, loop .inv .4 .course .last-fits)
+    omega (arith, going-free (a .policy) (a .slots .now) (a .values .now) (a .kept .now) (a .marks .now) (listsOf (a .fates .now) (a .whens .now) (a .bys .now)) (start .pre) (loop .numbers) (loop .held-values) (loop .marks) (loop .w .head) (loop .w .tail) (loop .last .0) (loop .most) (loop .i) (listsOf (loop .fates) (loop .whens) (loop .bys)) (loop .inv .4), loop .inv .4 .places, loop .inv .4 .course .last-fits)
 
 slice-aggregate-end-slots : tie.Need-slice-aggregate-end-slots Inv-loop μ-loop
 slice-aggregate-end-slots c = search needs
@@ -129,7 +129,7 @@ returns c =
     let a = start .args in
     let loop = c .before .before .before .before .before .before .before .before .before .before .before .before .before .before .before .before .before .before .before .before .loop in
     let ended = c .before .before .before .before .before .before .before .before .before .before .end-slots in
-    going-end (a .policy) (a .slots .now) (a .values .now) (a .kept .now) (a .marks .now) (listsOf (a .fates .now) (a .whens .now) (a .bys .now)) (start .pre) (loop .numbers) (loop .held) (loop .marks) (loop .w .head) (loop .w .tail) (loop .last .0) (loop .most) (loop .i) (listsOf (loop .fates) (loop .whens) (loop .bys)) (loop .inv .4) (c .before .before .before .before .before .before .before .before .before .before .before .before .before .before .before .before .before .before .before .loop-test .left)
+    going-end (a .policy) (a .slots .now) (a .values .now) (a .kept .now) (a .marks .now) (listsOf (a .fates .now) (a .whens .now) (a .bys .now)) (start .pre) (loop .numbers) (loop .held-values) (loop .marks) (loop .w .head) (loop .w .tail) (loop .last .0) (loop .most) (loop .i) (listsOf (loop .fates) (loop .whens) (loop .bys)) (loop .inv .4) (c .before .before .before .before .before .before .before .before .before .before .before .before .before .before .before .before .before .before .before .loop-test .left)
     (ended .result) (ended .last .0) (ended .last .1 .0) (ended .last .1 .1 .1 .0) (listsOf (ended .last .1 .1 .1 .1 .0) (ended .last .1 .1 .1 .1 .1 .0) (ended .last .1 .1 .1 .1 .1 .1 .0)) (record { 0 = loop .last .0 + (loop .w .tail - loop .w .head) }) refl (ended .ensures)
 
 pub run-spec : {M : Type 1} → statement M
@@ -145,9 +145,9 @@ run-spec =
     shared-slice-read-value
     add-number
     cast-number
-    slice-aggregate-take
-    slice-aggregate-take-2
-    take-requires
+    slice-aggregate-turn
+    slice-aggregate-turn-2
+    turn-requires
     sub-length
     add-i
     loop-less

@@ -1,0 +1,37 @@
+-- The run writes the record and answers its greatest length, from which and from the record the totals are counted.
+use mathlib.Core.List.{[]}
+use Rattle.model.specs.Record.{listsOf}
+use Rattle.model.specs.Course.{byRule}
+use Rattle.queue.specs.Choose.{ruleOf}
+use Rattle.steps.proofs.Answering.{finished}
+use borrow.Author.Needs.{needs}
+use Rattle.runs.proofs.finish_rule.Statement.{statement}
+use Rattle.runs.proofs.finish_rule.Tie as tie
+
+run-rule-requires : tie.Need-run-rule-requires
+run-rule-requires c κs = search needs
+
+totals-requires : tie.Need-totals-requires
+totals-requires c κs = search needs
+
+same-length : tie.Need-same-length
+same-length c = search needs
+
+same-length-2 : tie.Need-same-length-2
+same-length-2 c = search needs
+
+same-length-3 : tie.Need-same-length-3
+same-length-3 c = search needs
+
+returns : tie.Need-returns
+returns c =
+    let start = c .before .before .before .before .before .before .before .before .before .before .before .before .before .before .before .before .before in
+    let a = start .args in
+    let done = c .before .before .before .before .before .before .before .before .run-rule in
+    finished (byRule (ruleOf (a .room) (a .rule))) [] (a .slots .now) (a .values .now) (listsOf (a .fates .now) (a .whens .now) (a .bys .now)) (start .pre .0)
+    (listsOf (done .last .1 .1 .1 .1 .0) (done .last .1 .1 .1 .1 .1 .0) (done .last .1 .1 .1 .1 .1 .1 .0)) (done .result) (done .ensures) (c .totals .result) (c .totals .ensures)
+
+pub finish-rule-spec : {M : Type 1} → statement M
+finish-rule-spec =
+    tie.close
+    (tie.spec run-rule-requires totals-requires same-length same-length-2 same-length-3 returns)
