@@ -16,20 +16,24 @@ use Rattle.model.specs.Refusals.{valueOk, plainRefusal, pgRefusal}
 use Rattle.model.specs.Policies.Greedy.{greedyRule}
 use Rattle.model.specs.Policies.PG.{pgRule, pgRun}
 use Rattle.model.specs.Policies.Plan.{planKept, keptRule}
+use Rattle.laws.specs.Recorded.{recorded}
+use Rattle.laws.specs.MostQueue.{mostQueue}
+use Rattle.laws.specs.AtOnce.{pgAtOnce}
+use Rattle.laws.specs.Accepted.{Accepted}
 use Rattle.laws.proofs.Fifo.{Fair, Fifo, fifo-byRule, greedy-fair, pg-fair, kept-fair}
 use Rattle.laws.proofs.Conserving.{conserving, conserving-greedy, conserving-pg}
-use Rattle.laws.proofs.Entered.{rowsBy, recorded, rows-said}
+use Rattle.laws.proofs.Entered.{rowsBy, rows-said}
 use Rattle.laws.proofs.WellFormed.{course-once}
 use Rattle.laws.proofs.All.{all-weaken}
 use Rattle.laws.proofs.Moments.{Since, since-earlier}
 use Rattle.laws.proofs.Standing.{Marks, Stands, course-since}
-use Rattle.laws.proofs.Held.{mostQueue, HeldAgrees, held-agrees, mostHeld-mostQueue}
+use Rattle.laws.proofs.Held.{HeldAgrees, held-agrees, mostHeld-mostQueue}
 use Rattle.laws.proofs.Sends.{course-sends}
 use Rattle.laws.proofs.Obeys.{obeysFrom}
-use Rattle.laws.proofs.PG.{pgAtOnce, pg-at-once, at-once-roomy, pg-run}
+use Rattle.laws.proofs.PG.{pg-at-once, at-once-roomy, pg-run}
 use Rattle.laws.proofs.AgreeHeld.{most-same, held-same}
 use Rattle.laws.proofs.Room.{mostQueue-roomy, roomy-greedy, roomy-at-once, mostQueue-plan}
-use Rattle.laws.proofs.Accepted.{Accepted, plain-accepted, pg-accepted}
+use Rattle.laws.proofs.Accepted.{plain-accepted, pg-accepted}
 
 -- a policy's run on a trace, from the state s
 pub record Lawful {S : Type 0} (P : Policy S) (s : S) (slots values : List ℕ) (room : ℕ) : Type 0 where
