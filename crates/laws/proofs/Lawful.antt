@@ -12,7 +12,7 @@ use Rattle.model.specs.Record.{Lists}
 use Rattle.model.specs.Rules.{Obeys, bufferOf}
 use Rattle.model.specs.Totals.{mostHeldFrom}
 use Rattle.model.specs.Course.{Policy, Decided, byRule, course, first}
-use Rattle.model.specs.Refusals.{valueOk, plainRefusal, pgRefusal}
+use Rattle.model.specs.Refusals.{plainRefusal, pgRefusal}
 use Rattle.model.specs.Policies.Greedy.{greedyRule}
 use Rattle.model.specs.Policies.PG.{pgRule, pgRun}
 use Rattle.model.specs.Policies.Plan.{planKept, keptRule}
@@ -72,9 +72,9 @@ byRule-marks : (rule : List Packet → Packet → Decided) (fair : (queue : List
 byRule-marks rule fair = record { arrival = λ last a s h. tt; finish = λ last now s r h. tt; flush = λ last now s r h. tt }
 
 module _ (slots values : List ℕ) (room : ℕ) (lists : Lists) where
-  -- a run by a fair rule that keeps within the room
-  by-rule : (rule : List Packet → Packet → Decided) → ((queue : List Packet) (p : Packet) → Fair queue p (rule queue p)) →
-      Accepted valueOk slots values room lists → mostQueue (byRule rule) first [] (arrivals slots values) ≤ room → Lawful (byRule rule) [] slots values room
+  -- a run by a fair rule that keeps within the room, whatever test the values passed
+  pub by-rule : {ok : ℕ → Bool} (rule : List Packet → Packet → Decided) → ((queue : List Packet) (p : Packet) → Fair queue p (rule queue p)) →
+      Accepted ok slots values room lists → mostQueue (byRule rule) first [] (arrivals slots values) ≤ room → Lawful (byRule rule) [] slots values room
   by-rule rule fair A fits = lawful (byRule-marks rule fair) [] refl tt slots values room lists A fits
 
   pub lawful-greedy : plainRefusal slots values room lists .number ≡ 0 → Lawful (byRule (greedyRule room)) [] slots values room
