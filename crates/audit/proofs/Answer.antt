@@ -20,7 +20,7 @@ use Rattle.model.specs.Totals.{totalsOf, mostHeldFrom}
 use Rattle.model.specs.Refusals.{plainRefusal, valueOk}
 use Rattle.model.specs.Answers.{causeNumber, faultNumber, ofAudit}
 use Rattle.model.specs.Calls.{auditCall}
-use Rattle.laws.proofs.Accepted.{Accepted}
+use Rattle.laws.specs.Accepted.{Accepted}
 use Rattle.totals.specs.Totals.{Countable, totalsBy}
 use Rattle.totals.proofs.Totalling.{rows-totals}
 use Rattle.trace.proofs.Laws.{cause-refuses}

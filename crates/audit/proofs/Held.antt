@@ -12,7 +12,7 @@ use Rattle.model.specs.declared.Fate.{Fate}
 use Rattle.model.specs.declared.Fate.the-variants.{Sent, Rejected, PushedOut, Preempted, Flushed}
 use Rattle.model.specs.Record.{Row, fateNumber}
 use Rattle.model.specs.Rules.{byWrong, isHeldAt}
-use Rattle.laws.proofs.Accepted.{NeverDown}
+use Rattle.laws.specs.Accepted.{NeverDown}
 use Rattle.audit.specs.Sweep.{upTo, leaveOf}
 use Rattle.audit.proofs.Fates.{held-test, leave-test}
 use Rattle.audit_faults.proofs.Fates.{by-test, by-range}

@@ -22,7 +22,7 @@ use Rattle.model.specs.Record.{Row, Lists, rowsOf, fateNumber}
 use Rattle.model.specs.Rules.{Verdict, Buffer, clear, countOf, isHeldAt, heldAfter, notAfterLast, byWrong, overRoom, orElse, verdictIf, faultAt, fateOutside, firstFaultFrom, bufferOf}
 use Rattle.model.specs.Totals.{mostHeldFrom}
 use Rattle.model.specs.Refusals.{valueOk}
-use Rattle.laws.proofs.Accepted.{Accepted}
+use Rattle.laws.specs.Accepted.{Accepted}
 use Rattle.audit.specs.Rows.{rowAt}
 use Rattle.audit.specs.Sweep.{leaveOf}
 use Rattle.audit_faults.specs.Faults.{lastOf, rowFault}

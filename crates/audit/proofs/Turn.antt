@@ -13,7 +13,7 @@ use Rattle.model.specs.Record.{Row, Lists, fateNumber}
 use Rattle.model.specs.Rules.{Verdict, clear, byWrong, firstFaultFrom, bufferOf}
 use Rattle.model.specs.Refusals.{valueOk}
 use Rattle.model.specs.Answers.{faultNumber}
-use Rattle.laws.proofs.Accepted.{Accepted}
+use Rattle.laws.specs.Accepted.{Accepted}
 use Rattle.audit.specs.Rows.{rowAt}
 use Rattle.audit.specs.Sweep.{leaveOf}
 use Rattle.audit_faults.specs.Faults.{lastOf, rowFault}

@@ -8,7 +8,7 @@ use mathlib.Core.List.{List, [], _∷_}
 use lib.ListN.{length, getD}
 use lib.Dec.{leb}
 use borrow.Author.Tests.{leb-true, leb-false}
-use Rattle.laws.proofs.Accepted.{NeverDown}
+use Rattle.laws.specs.Accepted.{NeverDown}
 use Rattle.audit.specs.Sweep.{upTo}
 
 -- every slot of the front is not after `when`

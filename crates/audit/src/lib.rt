@@ -12,7 +12,7 @@ ghost use Rattle.model.specs.Limits.{recordLimits};
 ghost use Rattle.model.specs.Rules.{byWrong, bufferOf};
 ghost use Rattle.model.specs.Lent.{listsBefore};
 ghost use Rattle.audit_faults.specs.Faults.{rowOf};
-ghost use Rattle.laws.proofs.Accepted.{NeverDown, Accepted};
+ghost use Rattle.laws.specs.Accepted.{NeverDown, Accepted};
 ghost use Rattle.audit.specs.Rows.{rowAt, Names, Reads, Place};
 ghost use Rattle.audit.specs.Sweep.{upTo, leaveOf, SweptAs};
 use audit_faults::FatedRow;

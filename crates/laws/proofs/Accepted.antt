@@ -12,35 +12,13 @@ use borrow.Author.Tests.{leb-true, eqb-true, not-false}
 use Rattle.model.specs.declared.Beta.{Beta}
 use Rattle.model.specs.declared.Slot.{Slot}
 use Rattle.model.specs.Limits.{recordLimits, portLimits, within}
-use Rattle.model.specs.Packets.{arrivalsFrom, arrivals}
+use Rattle.model.specs.Packets.{arrivalsFrom}
 use Rattle.model.specs.Record.{Lists}
 use Rattle.model.specs.Rules.{Verdict}
 use Rattle.model.specs.Refusals.{slotOk, valueOk, loOrHi, packetRefusalFrom, traceRefusal, plainRefusal, pgRefusal, mfRefusal}
 use Rattle.model.specs.declared.Marking.{Marking}
+use Rattle.laws.specs.Accepted.{Packets, Comes, Accepted}
 use Rattle.laws.proofs.FirstFault.{orElse-zero, verdictIf-zero}
-use Rattle.laws.proofs.Entered.{Sized}
-use Rattle.laws.proofs.Standing.{Comes}
-
--- the slots never go down
-abbrev pub NeverDown : List ℕ → Type 0
-NeverDown slots = (p q : ℕ) → p ≤ q → q < length slots → getD slots p 0 ≤ getD slots q 0
-
--- the slots are in range and never go down, and the values pass a test
-pub record Packets (ok : ℕ → Bool) (slots values : List ℕ) : Type 0 where
-  pub slot-from : (k : ℕ) → k < length slots → 1 ≤ getD slots k 0
-  pub slot-to : (k : ℕ) → k < length slots → getD slots k 0 ≤ recordLimits .slot
-  pub never-down : NeverDown slots
-  pub taken : (k : ℕ) → k < length slots → ok (getD values k 0) ≡ true
-
--- refusals 1, 2, 3, 5 and 6 are clear
-pub record Accepted (ok : ℕ → Bool) (slots values : List ℕ) (room : ℕ) (lists : Lists) : Type 0 where
-  pub lengths : length values ≡ length slots
-  pub sized : Sized (length slots) lists
-  pub few : length slots ≤ recordLimits .packets
-  pub room-from : 1 ≤ room
-  pub room-to : room ≤ portLimits .room
-  pub packets : Packets ok slots values
-  pub comes : Comes slots 1 0 (arrivals slots values)
 
 -- the parts of a slot's test
 record SlotFits (before s : ℕ) : Type 0 where

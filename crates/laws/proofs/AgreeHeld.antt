@@ -9,8 +9,8 @@ use Rattle.model.specs.declared.Slot.{Slot}
 use Rattle.model.specs.Packets.{Arrival, slotsUntil}
 use Rattle.model.specs.Record.{Row}
 use Rattle.model.specs.Course.{Decided, byRule, slotEnds}
-use Rattle.laws.proofs.Standing.{turn}
-use Rattle.laws.proofs.Held.{mostQueue, HeldAgrees}
+use Rattle.laws.specs.MostQueue.{turn, mostQueue}
+use Rattle.laws.proofs.Held.{HeldAgrees}
 use Rattle.laws.proofs.Agree.{ends-same, ends-short}
 
 module _ (room : ℕ) (rule rule′ : List Packet → Packet → Decided)

@@ -19,9 +19,11 @@ use Rattle.model.specs.declared.Marking.{Marking}
 use Rattle.model.specs.Policies.MF.{mfRun}
 use Rattle.model.specs.Policies.Plan.{planRun}
 use Rattle.model.specs.Calls.{ran, runUnless, greedyCall, pgCall, mfCall, planCall, auditCall}
+use Rattle.laws.specs.Recorded.{Sized, recorded}
+use Rattle.laws.specs.Accepted.{Accepted}
 use Rattle.laws.proofs.FirstFault.{orElse-zero, verdictIf-zero, obeys-clearFrom}
-use Rattle.laws.proofs.Entered.{Sized, blank-sized, entered-sized, recorded}
-use Rattle.laws.proofs.Accepted.{Accepted, plain-accepted, pg-accepted, mf-accepted}
+use Rattle.laws.proofs.Entered.{blank-sized, entered-sized}
+use Rattle.laws.proofs.Accepted.{plain-accepted, pg-accepted, mf-accepted}
 use Rattle.laws.proofs.Lawful.{lawful-greedy, lawful-pg, lawful-plan}
 use Rattle.laws.proofs.LawfulMF.{lawful-mf}
 

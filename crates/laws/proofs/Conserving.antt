@@ -12,11 +12,12 @@ use Rattle.model.specs.Packets.{Arrival, nobody, slotsUntil, following}
 use Rattle.model.specs.Record.{Entry}
 use Rattle.model.specs.Course.{Step, Policy, Decided, entriesOf, sendOldest, byRule, unlessHeld, andThen, slotEnds, course}
 use Rattle.model.specs.Policies.Greedy.{greedyRule}
-use Rattle.laws.proofs.PG.{pgAtOnce}
+use Rattle.laws.specs.Times.{times, ofEntry, ofPacket, timesEntered, timesHeld, timesArriving}
+use Rattle.laws.specs.AtOnce.{pgAtOnce}
 use Rattle.model.specs.declared.Marking.{Marking}
 use Rattle.model.specs.Policies.MF.{mfPolicy}
 use Rattle.model.specs.Policies.Plan.{keptRule}
-use Rattle.laws.proofs.Times.{times, times-append, times-none, times-without, ofEntry, ofPacket, timesEntered, timesHeld, timesArriving}
+use Rattle.laws.proofs.Times.{times-append, times-none, times-without}
 use Rattle.laws.proofs.Fifo.{Fair, holds, rejects, loses, Parted, none, goes, stays, Fifo, fifo-greedy, fifo-pg, fifo-kept, fifo-mf}
 
 pub record Conserving {S : Type 0} (P : Policy S) : Type 0 where

@@ -11,8 +11,9 @@ use lib.Dec.{eqb}
 use Rattle.model.specs.declared.Fate.the-variants.{Sent}
 use Rattle.model.specs.Packets.{Arrival, placeOf, arrivalsFrom, arrivals}
 use Rattle.model.specs.Record.{fateNumber, Entry, Lists, enter, entered, blank, recordOf, Row, rowsOf, rows}
+use Rattle.laws.specs.Times.{times, timesEntered}
+use Rattle.laws.specs.Recorded.{Sized, recorded}
 use Rattle.laws.proofs.Cases.{eqb-cases}
-use Rattle.laws.proofs.Times.{times, timesEntered}
 
 -- the entry of packet n
 unfoldable pub entryOf : ℕ → List Entry → Entry
@@ -75,12 +76,6 @@ module _ (says : Entry → ℕ) where
 pub record EnteredOnce (packets : ℕ) (entries : List Entry) : Type 0 where
   pub nobody : timesEntered 0 entries ≡ 0
   pub once : (k : ℕ) → k < packets → timesEntered (suc k) entries ≡ 1
-
--- three lists, so long
-pub record Sized (packets : ℕ) (lists : Lists) : Type 0 where
-  pub fates : length (lists .fates) ≡ packets
-  pub whens : length (lists .whens) ≡ packets
-  pub bys : length (lists .bys) ≡ packets
 
 pub blank-sized : (packets : ℕ) → Sized packets (blank packets)
 blank-sized packets = record { fates = length-replicate packets 0; whens = length-replicate packets 0; bys = length-replicate packets 0 }
@@ -164,10 +159,6 @@ rows-saidFrom entries n (s ∷ slots) (v ∷ values) (f ∷ fates) (w ∷ whens)
     (rw
     (rows-saidFrom entries (suc n) slots values fates whens bys (omega arith) (omega arith)
     (λ k m h e. let there = says (suc k) m (omega arith) (omega arith) in record { fate = there .fate; when = there .when; by = there .by })))
-
--- the rows of a trace and of the record that the entries make
-abbrev pub recorded : List ℕ → List ℕ → List Entry → List Row
-recorded slots values entries = rows (arrivals slots values) (recordOf (length slots) entries)
 
 pub rows-said : (slots values : List ℕ) (entries : List Entry) → length values ≡ length slots → EnteredOnce (length slots) entries →
     recorded slots values entries ≡ rowsBy entries (arrivals slots values)

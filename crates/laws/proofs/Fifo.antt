@@ -17,7 +17,7 @@ use Rattle.model.specs.Record.{Entry, flushedAt}
 use Rattle.model.specs.Course.{Policy, Decided, held, rejected, losing, entriesOf, sendOldest, byRule}
 use Rattle.model.specs.Policies.Greedy.{without, loserAt, greedyRule}
 use Rattle.model.specs.Policies.PG.{preemptedAt}
-use Rattle.laws.proofs.PG.{pgAtOnce}
+use Rattle.laws.specs.AtOnce.{pgAtOnce}
 use Rattle.model.specs.declared.Marking.{Marking}
 use Rattle.model.specs.Policies.MF.{markOf, goesWith, flushed, unflushed, headMark, marksAfter, mfPolicy}
 use Rattle.model.specs.Policies.Plan.{keptOf, keptRule}

@@ -1,6 +1,6 @@
 -- What fault 15 counts after an arrival is what the queue then holds: a packet that has arrived is counted exactly when its entry is still to be made, and
 -- that is when the queue has it. So the most held of a record is the longest queue just after an arrival.
-use Prim.Native.Nat.{ℕ, zero, suc, _+_, _≤_, _<_, max}
+use Prim.Native.Nat.{ℕ, zero, suc, _+_, _≤_, _<_}
 use native.Mathlib.Omega.{arith}
 use mathlib.Core.Path.{_≡_, refl, sym, _∙_}
 use mathlib.Core.Bool.{false, cond}
@@ -13,7 +13,10 @@ use Rattle.model.specs.Record.{fateNumber, Entry, Row}
 use Rattle.model.specs.Rules.{countOf, isHeldAt, heldAfter}
 use Rattle.model.specs.Totals.{mostHeldFrom}
 use Rattle.model.specs.Course.{Policy, course}
-use Rattle.laws.proofs.Times.{times, times-append, ofEntry, timesEntered, timesHeld, timesArriving}
+use Rattle.laws.specs.Times.{times, ofEntry, timesEntered, timesHeld, timesArriving}
+use Rattle.laws.specs.MostQueue.{turn, mostQueue}
+use Rattle.laws.specs.Accepted.{Comes}
+use Rattle.laws.proofs.Times.{times-append}
 use Rattle.laws.proofs.Fifo.{Fifo}
 use Rattle.laws.proofs.Conserving.{conserving, course-conserves}
 use Rattle.laws.proofs.Cases.{eqb-cases}
@@ -21,14 +24,7 @@ use Rattle.laws.proofs.Entered.{entryOf, EnteredOnce, rowOf, rowsBy}
 use Rattle.laws.proofs.Rising.{Rising, rising-bounds}
 use Rattle.laws.proofs.All.{All, all-append, all-weaken, all-entryOf, entryOf-number, entryOf-first, entryOf-second}
 use Rattle.laws.proofs.Moments.{heldBy, isHeldAt-heldBy, Since, gone-later}
-use Rattle.laws.proofs.Standing.{Comes, Marks, Stands, turn, course-turn, turn-goes, course-since}
-
--- the greatest length of the queue just after an arrival
-unfoldable pub mostQueue : {S : Type 0} → Policy S → Slot → S → List Arrival → ℕ
-mostQueue P now s [] = 0
-mostQueue P now s (a ∷ trace) =
-    let step = turn P now s a in
-    max (length (P .held (step .next))) (mostQueue P (a .slot) (step .next) trace)
+use Rattle.laws.proofs.Standing.{Marks, Stands, course-turn, turn-goes, course-since}
 
 -- a row says what an entry says
 pub record Tells (number : ℕ) (r : Row) (e : Entry) : Type 0 where

@@ -12,24 +12,28 @@ use Rattle.model.specs.Record.{Lists}
 use Rattle.model.specs.Rules.{Obeys, bufferOf}
 use Rattle.model.specs.Totals.{mostHeldFrom}
 use Rattle.model.specs.Course.{Policy, Decided, byRule, course, first}
-use Rattle.model.specs.Refusals.{valueOk, plainRefusal, pgRefusal}
+use Rattle.model.specs.Refusals.{plainRefusal, pgRefusal}
 use Rattle.model.specs.Policies.Greedy.{greedyRule}
 use Rattle.model.specs.Policies.PG.{pgRule, pgRun}
 use Rattle.model.specs.Policies.Plan.{planKept, keptRule}
+use Rattle.laws.specs.Recorded.{recorded}
+use Rattle.laws.specs.MostQueue.{mostQueue}
+use Rattle.laws.specs.AtOnce.{pgAtOnce}
+use Rattle.laws.specs.Accepted.{Accepted}
 use Rattle.laws.proofs.Fifo.{Fair, Fifo, fifo-byRule, greedy-fair, pg-fair, kept-fair}
 use Rattle.laws.proofs.Conserving.{conserving, conserving-greedy, conserving-pg}
-use Rattle.laws.proofs.Entered.{rowsBy, recorded, rows-said}
+use Rattle.laws.proofs.Entered.{rowsBy, rows-said}
 use Rattle.laws.proofs.WellFormed.{course-once}
 use Rattle.laws.proofs.All.{all-weaken}
 use Rattle.laws.proofs.Moments.{Since, since-earlier}
 use Rattle.laws.proofs.Standing.{Marks, Stands, course-since}
-use Rattle.laws.proofs.Held.{mostQueue, HeldAgrees, held-agrees, mostHeld-mostQueue}
+use Rattle.laws.proofs.Held.{HeldAgrees, held-agrees, mostHeld-mostQueue}
 use Rattle.laws.proofs.Sends.{course-sends}
 use Rattle.laws.proofs.Obeys.{obeysFrom}
-use Rattle.laws.proofs.PG.{pgAtOnce, pg-at-once, at-once-roomy, pg-run}
+use Rattle.laws.proofs.PG.{pg-at-once, at-once-roomy, pg-run}
 use Rattle.laws.proofs.AgreeHeld.{most-same, held-same}
 use Rattle.laws.proofs.Room.{mostQueue-roomy, roomy-greedy, roomy-at-once, mostQueue-plan}
-use Rattle.laws.proofs.Accepted.{Accepted, plain-accepted, pg-accepted}
+use Rattle.laws.proofs.Accepted.{plain-accepted, pg-accepted}
 
 -- a policy's run on a trace, from the state s
 pub record Lawful {S : Type 0} (P : Policy S) (s : S) (slots values : List ℕ) (room : ℕ) : Type 0 where
@@ -68,9 +72,9 @@ byRule-marks : (rule : List Packet → Packet → Decided) (fair : (queue : List
 byRule-marks rule fair = record { arrival = λ last a s h. tt; finish = λ last now s r h. tt; flush = λ last now s r h. tt }
 
 module _ (slots values : List ℕ) (room : ℕ) (lists : Lists) where
-  -- a run by a fair rule that keeps within the room
-  by-rule : (rule : List Packet → Packet → Decided) → ((queue : List Packet) (p : Packet) → Fair queue p (rule queue p)) →
-      Accepted valueOk slots values room lists → mostQueue (byRule rule) first [] (arrivals slots values) ≤ room → Lawful (byRule rule) [] slots values room
+  -- a run by a fair rule that keeps within the room, whatever test the values passed
+  pub by-rule : {ok : ℕ → Bool} (rule : List Packet → Packet → Decided) → ((queue : List Packet) (p : Packet) → Fair queue p (rule queue p)) →
+      Accepted ok slots values room lists → mostQueue (byRule rule) first [] (arrivals slots values) ≤ room → Lawful (byRule rule) [] slots values room
   by-rule rule fair A fits = lawful (byRule-marks rule fair) [] refl tt slots values room lists A fits
 
   pub lawful-greedy : plainRefusal slots values room lists .number ≡ 0 → Lawful (byRule (greedyRule room)) [] slots values room

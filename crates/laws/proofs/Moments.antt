@@ -18,6 +18,7 @@ use Rattle.model.specs.Limits.{within}
 use Rattle.model.specs.Packets.{Arrival, slotOf}
 use Rattle.model.specs.Record.{fateNumber, Entry, sentAt, rejectedAt, lostTo, Row}
 use Rattle.model.specs.Rules.{hasFate, atFate, byWrong, whenWrong, isHeldFor, isHeldAt}
+use Rattle.laws.specs.Accepted.{Next}
 use Rattle.laws.proofs.Fates.{at-fate}
 
 -- held at a moment, by fate: sent or flushed with when not before the slot, or lost with by after the last that has arrived
@@ -135,13 +136,6 @@ module _ (slots : List ℕ) (last : ℕ) (at : Slot) (A : Arrived slots (at .0) 
         };
         gone = rw (h .fate, h .when) (lt-leb till (at .0) before);
       }
-
--- the next packet of a trace, and its slot
-pub record Next (slots : List ℕ) (now last : ℕ) (a : Arrival) : Type 0 where
-  pub number : a .packet .number .0 ≡ suc last
-  pub slot : a .slot .0 ≡ getD slots last 0
-  pub later : now ≤ a .slot .0
-  pub counted : suc last ≤ length slots
 
 module _ (slots : List ℕ) (now last : ℕ) (a : Arrival) (N : Next slots now last a) where
   its-slot : slotOf slots (a .packet .number) .0 ≡ a .slot .0

@@ -10,12 +10,12 @@ use Rattle.model.specs.Packets.{Arrival}
 use Rattle.model.specs.Record.{fateNumber, Entry, Row}
 use Rattle.model.specs.Rules.{Faultless, ObeysFrom, hasFate, atFate, fateOutside, byWrong, whenWrong, notLater, overRoom, heldAfter, bufferOf}
 use Rattle.model.specs.Totals.{mostHeldFrom}
+use Rattle.laws.specs.Accepted.{Next, Comes}
 use Rattle.laws.proofs.Cases.{eqb-cases}
 use Rattle.laws.proofs.Entered.{entryOf, EnteredOnce, rowsBy}
 use Rattle.laws.proofs.WellFormed.{fateNumber-within}
 use Rattle.laws.proofs.All.{All, all-entryOf, entryOf-number}
-use Rattle.laws.proofs.Moments.{Since, Next}
-use Rattle.laws.proofs.Standing.{Comes}
+use Rattle.laws.proofs.Moments.{Since}
 use Rattle.laws.proofs.Held.{Older, nextRow, next-tells}
 use Rattle.laws.proofs.Sends.{SendsFrom, number-sent, sends-notAfterLast}
 

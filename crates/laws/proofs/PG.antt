@@ -15,6 +15,7 @@ use Rattle.model.specs.Packets.{Arrival, nobody, valuesOf}
 use Rattle.model.specs.Course.{Decided, held, losing, runBy, first}
 use Rattle.model.specs.Policies.Greedy.{without, greedyRule}
 use Rattle.model.specs.Policies.PG.{preemptedAt, pgRule, pgRun}
+use Rattle.laws.specs.AtOnce.{pgAtOnce}
 use Rattle.laws.proofs.Times.{length-without}
 use Rattle.laws.proofs.Cases.{below-cases}
 use Rattle.laws.proofs.Roomy.{loses-roomy, greedy-roomy}
@@ -30,17 +31,6 @@ greedy-holds room queue p h = rw (lt-ltb (length queue) room h)
 pub then-greedy : (room place : ℕ) (queue : List Packet) (p : Packet) → length queue ≤ room → place < length queue →
     greedyRule room (without place queue) p ≡ record { decision = held; queue = without place queue ++ p ∷ [] }
 then-greedy room place queue p fits h = greedy-holds room (without place queue) p (omega (arith, length-without place queue h))
-
--- PG, with the arrival held at once where a packet was preempted
-unfoldable pub pgAtOnce : ℕ → Beta → List Packet → Packet → Decided
-pgAtOnce room beta queue p =
-    let place = preemptedAt beta (p .value) (valuesOf queue) in
-    cond (ltb place (length queue))
-    (record {
-      decision = losing (record { packet = getD queue place nobody; kind = Preempted });
-      queue = without place queue ++ p ∷ [];
-    })
-    (greedyRule room queue p)
 
 module _ (room : ℕ) (beta : Beta) where
   -- on every queue within the room that is PG

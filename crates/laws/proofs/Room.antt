@@ -18,12 +18,12 @@ use Rattle.model.specs.Policies.PG.{pgRule}
 use Rattle.model.specs.declared.Marking.{Marking}
 use Rattle.model.specs.Policies.MF.{mfPolicy}
 use Rattle.model.specs.Policies.Plan.{keptOf, keep, fitsFrom, fits, keepInTurn, byFallingValue, planKept, keptRule}
+use Rattle.laws.specs.MostQueue.{turn, mostQueue}
+use Rattle.laws.specs.AtOnce.{pgAtOnce}
 use Rattle.laws.proofs.Roomy.{greedy-roomy}
-use Rattle.laws.proofs.PG.{pgAtOnce, pg-at-once, at-once-roomy}
+use Rattle.laws.proofs.PG.{pg-at-once, at-once-roomy}
 use Rattle.laws.proofs.Conserving.{Conserving, slotEnds-shorter, conserving-kept}
 use Rattle.laws.proofs.Cases.{eqb-cases, cond-cases}
-use Rattle.laws.proofs.Standing.{turn}
-use Rattle.laws.proofs.Held.{mostQueue}
 
 -- an arrival leaves no more than room held
 abbrev pub Roomy : {S : Type 0} → ℕ → Policy S → Type 0

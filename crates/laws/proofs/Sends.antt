@@ -16,13 +16,13 @@ use Rattle.model.specs.Packets.{Arrival, slotsUntil}
 use Rattle.model.specs.Record.{fateNumber, lossFate, Entry, Row}
 use Rattle.model.specs.Rules.{hasFate, notAfterLast}
 use Rattle.model.specs.Course.{Policy, Decision, held, rejected, losing, entriesOf, sendOldest, slotEnds, course}
-use Rattle.laws.proofs.Times.{times, timesEntered}
+use Rattle.laws.specs.Times.{times, timesEntered}
+use Rattle.laws.specs.Accepted.{Comes}
 use Rattle.laws.proofs.Fifo.{Parted, none, goes, stays, Fifo}
 use Rattle.laws.proofs.Conserving.{slotEnds-induction}
 use Rattle.laws.proofs.Cases.{eqb-cases}
 use Rattle.laws.proofs.Entered.{entryOf, EnteredOnce}
 use Rattle.laws.proofs.Rising.{Rising, rising-fair, rising-parted}
-use Rattle.laws.proofs.Standing.{Comes}
 use Rattle.laws.proofs.Held.{Older}
 
 -- the first type for a sending, the second for all else

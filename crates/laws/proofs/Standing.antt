@@ -8,18 +8,15 @@ use Rattle.model.specs.declared.Packet.{Packet}
 use Rattle.model.specs.declared.Slot.{Slot}
 use Rattle.model.specs.Packets.{Arrival, nobody, slotsUntil}
 use Rattle.model.specs.Record.{Entry}
-use Rattle.model.specs.Course.{Step, Policy, Decided, entriesOf, sendOldest, andThen, slotEnds, course}
+use Rattle.model.specs.Course.{Step, Policy, Decided, entriesOf, sendOldest, slotEnds, course}
+use Rattle.laws.specs.MostQueue.{turn}
+use Rattle.laws.specs.Accepted.{Next, Comes}
 use Rattle.laws.proofs.Fifo.{Fair, holds, rejects, loses, Fifo}
 use Rattle.laws.proofs.Conserving.{slotEnds-induction}
 use Rattle.laws.proofs.Cases.{eqb-cases}
 use Rattle.laws.proofs.Rising.{Rising, rising-bounds, rising-fair, rising-parted, rising-sent, rising-at}
 use Rattle.laws.proofs.All.{All, all-append, all-weaken}
-use Rattle.laws.proofs.Moments.{Since, Between, since-earlier, gone-later, FlushedBy, Arrived, sent-between, flushed-between, Next, rejected-between, lost-between}
-
--- the packets that come after `last`, in slots that never go down
-abbrev pub Comes : List ℕ → ℕ → ℕ → List Arrival → Type 0
-Comes slots now last [] = Unit {0}
-Comes slots now last (a ∷ trace) = Next slots now last a × Comes slots (a .slot .0) (suc last) trace
+use Rattle.laws.proofs.Moments.{Since, Between, since-earlier, gone-later, FlushedBy, Arrived, sent-between, flushed-between, rejected-between, lost-between}
 
 -- a policy whose states are fit to flush only by marks of later packets that have arrived
 pub record Marks {S : Type 0} {P : Policy S} (F : Fifo P) (Fit : ℕ → S → Type 0) : Type 0 where
@@ -56,12 +53,6 @@ module _ (slots : List ℕ) where
     fair-between holds h = tt
     fair-between rejects h = (rejected-between slots now last a N, tt)
     fair-between {queue} (loses place kind b) h = (lost-between slots now last a N (getD queue place nobody) kind (rising-at 0 last place queue b h .1), tt)
-
--- the ends of slots before an arrival, and the arrival
-abbrev pub turn : {S : Type 0} → Policy S → Slot → S → Arrival → Step S
-turn P now s a =
-    let before = slotEnds P (slotsUntil now (a .slot)) now s in
-    andThen (before .entries) (P .arrive a (before .next))
 
 pub course-turn : {S : Type 0} (P : Policy S) (now : Slot) (s : S) (a : Arrival) (trace : List Arrival) →
     course P now s (a ∷ trace) ≡ turn P now s a .entries ++ course P (a .slot) (turn P now s a .next) trace

@@ -5,49 +5,28 @@ use native.Mathlib.Omega.{arith}
 use mathlib.Core.Path.{_≡_, refl, _∙_}
 use mathlib.Core.Bool.{true, cond}
 use mathlib.Core.List.{List, [], _∷_}
-use lib.ListN.{length, getD}
+use lib.ListN.{length}
 use Rattle.model.specs.declared.Beta.{Beta}
 use Rattle.model.specs.declared.Fate.{Fate}
 use Rattle.model.specs.declared.Fate.the-variants.{Sent, Rejected, PushedOut, Preempted, Flushed}
 use Rattle.model.specs.declared.Slot.{Slot}
-use Rattle.model.specs.declared.Tally.{Tally}
 use Rattle.model.specs.Limits.{within}
 use Rattle.model.specs.Packets.{Arrival, arrivalsFrom, arrivals}
-use Rattle.model.specs.Record.{fateNumber, Entry, Lists, entered, blank, recordOf, Row, rows}
+use Rattle.model.specs.Record.{fateNumber, Entry, entered, blank, Row}
 use Rattle.model.specs.Rules.{hasFate, countOf}
-use Rattle.model.specs.Totals.{valueOf, totalsOf}
+use Rattle.model.specs.Totals.{valueOf}
 use Rattle.model.specs.Course.{Policy, course, first}
 use Rattle.model.specs.Policies.Greedy.{greedyRun}
 use Rattle.model.specs.Policies.PG.{pgRun}
 use Rattle.model.specs.declared.Marking.{Marking}
 use Rattle.model.specs.Policies.MF.{unmarked, mfRun}
 use Rattle.model.specs.Policies.Plan.{planKept, planRun}
-use Rattle.laws.proofs.Times.{times, timesArriving}
+use Rattle.laws.specs.Times.{times, timesArriving}
+use Rattle.laws.specs.WellFormed.{sum, AddUp, WellFormed}
 use Rattle.laws.proofs.Conserving.{Conserving, course-conserves, conserving-greedy, conserving-pg, conserving-kept, conserving-mf}
 use Rattle.laws.proofs.Cases.{eqb-cases}
 use Rattle.laws.proofs.PG.{pg-run}
-use Rattle.laws.proofs.Entered.{EnteredOnce, Sized, blank-sized, entered-sized, entered-says, entered-all, entryOf, rowOf, rowsBy, recorded, rows-said}
-
--- the five tallies of a record add up to a sixth, by whatever is counted
-pub record AddUp (of : Tally → ℕ) (rows : List Row) : Type 0 where
-  pub all : of (totalsOf rows .sent) + of (totalsOf rows .rejected) + of (totalsOf rows .«pushed_out»)
-      + of (totalsOf rows .preempted) + of (totalsOf rows .flushed)
-      ≡ of (totalsOf rows .arrived)
-
--- the sum of the values of a trace
-unfoldable pub sum : List ℕ → ℕ
-sum [] = 0
-sum (v ∷ values) = v + sum values
-
-pub record WellFormed (slots values : List ℕ) (entries : List Entry) : Type 0 where
-  pub sized : Sized (length slots) (recordOf (length slots) entries)
-  pub fate : (k : ℕ) → k < length slots → (f : Fate) × (getD (recordOf (length slots) entries .fates) k 0 ≡ fateNumber f)
-  pub fate-within : (k : ℕ) → k < length slots → within 1 5 (getD (recordOf (length slots) entries .fates) k 0) ≡ true
-  pub all-written : (before : Lists) → Sized (length slots) before → entered entries before ≡ recordOf (length slots) entries
-  pub counts : AddUp (λ t. t .count) (recorded slots values entries)
-  pub values-counted : AddUp (λ t. t .value) (recorded slots values entries)
-  pub arrived-count : totalsOf (recorded slots values entries) .arrived .count ≡ length slots
-  pub arrived-value : totalsOf (recorded slots values entries) .arrived .value ≡ sum values
+use Rattle.laws.proofs.Entered.{EnteredOnce, blank-sized, entered-sized, entered-says, entered-all, entryOf, rowOf, rowsBy, rows-said}
 
 pub fateNumber-within : (f : Fate) → within 1 5 (fateNumber f) ≡ true
 unfolding within

@@ -15,7 +15,8 @@ use Rattle.model.specs.Answers.{causeNumber}
 use Rattle.model.specs.Policies.Plan.{keepInTurn, planKept}
 use Rattle.trace.specs.declared.Checked.{Checked}
 use Rattle.trace.specs.Checked.{verdictOf}
-use Rattle.laws.proofs.Accepted.{Accepted, accepted}
+use Rattle.laws.specs.Accepted.{Accepted}
+use Rattle.laws.proofs.Accepted.{accepted}
 use Rattle.steps.specs.Guarded.{Guarded}
 use Rattle.steps.specs.Places.{packetsAt}
 use Rattle.steps.proofs.Places.{arrivals-length}

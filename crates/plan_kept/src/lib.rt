@@ -9,7 +9,7 @@ ghost use Rattle.model.specs.Refusals.{valueOk};
 ghost use Rattle.model.specs.Policies.Plan.{planKept};
 ghost use Rattle.model.specs.Record.{listsOf};
 ghost use Rattle.model.specs.Lent.{was, left};
-ghost use Rattle.laws.proofs.Accepted.{Accepted};
+ghost use Rattle.laws.specs.Accepted.{Accepted};
 ghost use Rattle.steps.specs.Guarded.{Guarded};
 ghost use Rattle.plan_order.specs.Order.{Inside};
 ghost use Rattle.plan_kept.specs.Keep.{Triable, Reach, Raisable, Raised, Keepable, HeldAs, TakenInTurn, accepts};

@@ -14,7 +14,8 @@ use Rattle.model.specs.declared.LossKind.the-variants.{PushedOut, Preempted}
 use Rattle.model.specs.Packets.{valuesOf}
 use Rattle.model.specs.Policies.Greedy.{greedyRule}
 use Rattle.model.specs.Policies.PG.{preemptedAt, pgRule}
-use Rattle.laws.proofs.PG.{pgAtOnce, pg-at-once}
+use Rattle.laws.specs.AtOnce.{pgAtOnce}
+use Rattle.laws.proofs.PG.{pg-at-once}
 use Rattle.queue.specs.declared.Rule.{Rule}
 use Rattle.queue.specs.declared.Rule.the-variants.{Greedy, PG}
 use Rattle.queue.specs.declared.Choice.{Choice}

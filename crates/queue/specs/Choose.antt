@@ -13,7 +13,7 @@ use Rattle.model.specs.Packets.{nobody}
 use Rattle.model.specs.Course.{Decided, held, rejected, losing}
 use Rattle.model.specs.Policies.Greedy.{loserAt, without, greedyRule}
 use Rattle.model.specs.Policies.PG.{preemptedAt}
-use Rattle.laws.proofs.PG.{pgAtOnce}
+use Rattle.laws.specs.AtOnce.{pgAtOnce}
 use Rattle.queue.specs.declared.Rule.{Rule}
 use Rattle.queue.specs.declared.Rule.the-variants.{Greedy, PG}
 use Rattle.queue.specs.declared.Choice.{Choice}

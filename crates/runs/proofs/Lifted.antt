@@ -9,7 +9,7 @@ use Rattle.model.specs.Packets.{Arrival, arrivals, slotsUntil, following}
 use Rattle.model.specs.Record.{Entry, Lists}
 use Rattle.model.specs.Course.{Step, Decided, andThen, byRule, sendOldest, slotEnds, course, first}
 use Rattle.model.specs.Policies.MF.{Marked}
-use Rattle.laws.proofs.Held.{mostQueue}
+use Rattle.laws.specs.MostQueue.{mostQueue}
 use Rattle.steps.specs.Calls.{Ready}
 use Rattle.mf_marks.specs.Mark.{beside}
 use Rattle.runs.specs.Policy.{queueStep, lifted}

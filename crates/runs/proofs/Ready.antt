@@ -17,11 +17,13 @@ use Rattle.model.specs.Policies.Greedy.{greedyRule}
 use Rattle.model.specs.Policies.MF.{mfPolicy, unmarked}
 use Rattle.model.specs.Policies.Plan.{planKept, keptRule, planRun}
 use Rattle.model.specs.Refusals.{valueOk, loOrHi, plainRefusal, pgRefusal, betaRefusal, mfRefusal, markingRefusal}
-use Rattle.laws.proofs.PG.{pgAtOnce, pg-run}
+use Rattle.laws.specs.AtOnce.{pgAtOnce}
+use Rattle.laws.specs.Accepted.{Accepted}
+use Rattle.laws.proofs.PG.{pg-run}
 use Rattle.laws.proofs.WellFormed.{wellFormed-greedy, wellFormed-pg, wellFormed-mf, wellFormed-plan}
 use Rattle.laws.proofs.Lawful.{lawful-greedy, lawful-at-once, lawful-plan}
 use Rattle.laws.proofs.LawfulMF.{lawful-mf}
-use Rattle.laws.proofs.Accepted.{Accepted, accepted}
+use Rattle.laws.proofs.Accepted.{accepted}
 use Rattle.checks.proofs.Tests.{left-part}
 use Rattle.steps.specs.Guarded.{Guarded}
 use Rattle.steps.specs.Calls.{Ready}

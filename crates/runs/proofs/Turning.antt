@@ -11,8 +11,8 @@ use Rattle.model.specs.Record.{Lists, entered}
 use Rattle.model.specs.Course.{Step, Decided, andThen, slotEnds}
 use Rattle.model.specs.Policies.Plan.{keptRule}
 use Rattle.model.specs.Policies.MF.{Marked}
+use Rattle.laws.specs.MostQueue.{turn}
 use Rattle.laws.proofs.Conserving.{conserving-mf, slotEnds-shorter}
-use Rattle.laws.proofs.Standing.{turn}
 use Rattle.steps.specs.declared.Window.{Window}
 use Rattle.steps.specs.Window.{windowOf, Within}
 use Rattle.steps.specs.Step.{Stepped, sending, arriving}

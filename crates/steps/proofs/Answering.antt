@@ -16,10 +16,10 @@ use Rattle.model.specs.Course.{Policy, course, first}
 use Rattle.model.specs.Refusals.{valueOk}
 use Rattle.model.specs.Answers.{causeNumber}
 use Rattle.model.specs.Calls.{Outcome, ran, runUnless}
-use Rattle.laws.proofs.WellFormed.{WellFormed}
+use Rattle.laws.specs.WellFormed.{WellFormed}
+use Rattle.laws.specs.MostQueue.{mostQueue}
+use Rattle.laws.specs.Accepted.{Accepted}
 use Rattle.laws.proofs.Lawful.{Lawful}
-use Rattle.laws.proofs.Held.{mostQueue}
-use Rattle.laws.proofs.Accepted.{Accepted}
 use Rattle.trace.proofs.Laws.{cause-refuses}
 use Rattle.totals.specs.Totals.{Countable, CountedOrNone, totalsBy}
 use Rattle.steps.specs.Run as run

@@ -10,8 +10,8 @@ use Rattle.model.specs.Limits.{recordLimits}
 use Rattle.model.specs.Packets.{Arrival, arrivals}
 use Rattle.model.specs.Record.{Entry, Lists, entered}
 use Rattle.model.specs.Course.{Policy, slotEnds, course, first}
-use Rattle.laws.proofs.Standing.{turn, course-turn}
-use Rattle.laws.proofs.Held.{mostQueue}
+use Rattle.laws.specs.MostQueue.{turn, mostQueue}
+use Rattle.laws.proofs.Standing.{course-turn}
 use Rattle.steps.specs.Run.{Runnable, Ran}
 use Rattle.steps.specs.Places.{packetAt}
 use Rattle.steps.proofs.Places.{arrivals-at, arrivals-length}

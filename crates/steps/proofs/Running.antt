@@ -8,7 +8,7 @@ use lib.ListN.{length, getD}
 use Rattle.model.specs.Limits.{portLimits}
 use Rattle.model.specs.Record.{Lists, entered}
 use Rattle.model.specs.Course.{Policy, slotEnds}
-use Rattle.laws.proofs.Standing.{turn}
+use Rattle.laws.specs.MostQueue.{turn}
 use Rattle.steps.specs.declared.Window.{Window}
 use Rattle.steps.specs.Window.{windowOf, Within}
 use Rattle.steps.specs.Run.{Runnable, Ran}

@@ -9,7 +9,7 @@ use Rattle.model.specs.declared.Slot.{Slot}
 use Rattle.model.specs.Packets.{Arrival, slotsUntil, following}
 use Rattle.model.specs.Record.{Entry, Lists, enter, entered}
 use Rattle.model.specs.Course.{Step, Decided, andThen, byRule, sendOldest, slotEnds}
-use Rattle.laws.proofs.Standing.{turn}
+use Rattle.laws.specs.MostQueue.{turn}
 use Rattle.steps.specs.declared.Window.{Window}
 use Rattle.steps.specs.Window.{windowOf, Within}
 use Rattle.steps.specs.Step.{Stepped, anyRule, sending, arriving, turning}

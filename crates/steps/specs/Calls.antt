@@ -12,9 +12,9 @@ use Rattle.model.specs.Course.{Policy, course, first}
 use Rattle.model.specs.Answers.{ofRun}
 use Rattle.model.specs.Calls.{Outcome}
 use Rattle.totals.specs.Totals.{ValuesFit}
-use Rattle.laws.proofs.Entered.{Sized, recorded}
-use Rattle.laws.proofs.WellFormed.{WellFormed}
-use Rattle.laws.proofs.Held.{mostQueue}
+use Rattle.laws.specs.Recorded.{Sized, recorded}
+use Rattle.laws.specs.WellFormed.{WellFormed}
+use Rattle.laws.specs.MostQueue.{mostQueue}
 
 abbrev pub outcome : RunAnswer → Lists → Outcome
 outcome answer lists = record { reply = ofRun answer; lists = lists }

@@ -7,7 +7,7 @@ use Rattle.model.specs.Limits.{recordLimits, portLimits}
 use Rattle.model.specs.Packets.{arrivals}
 use Rattle.model.specs.Record.{Lists, entered}
 use Rattle.model.specs.Course.{Policy, course, first}
-use Rattle.laws.proofs.Held.{mostQueue}
+use Rattle.laws.specs.MostQueue.{mostQueue}
 
 -- as many values as slots and not too many, slots in range, and a queue that is never longer than the greatest room
 pub record Runnable {S : Type 0} (P : Policy S) (s : S) (slots values : List ℕ) : Type 0 where

@@ -13,12 +13,12 @@ use Rattle.model.specs.Packets.{Arrival, arrivals}
 use Rattle.model.specs.Record.{Entry, fateNumber}
 use Rattle.model.specs.Rules.{hasFate, countOf}
 use Rattle.model.specs.Course.{Decided, runBy, first}
-use Rattle.laws.proofs.Times.{times, timesEntered, timesHeld}
+use Rattle.laws.specs.Times.{times, timesEntered, timesHeld}
+use Rattle.laws.specs.Accepted.{Comes}
 use Rattle.laws.proofs.Fifo.{Fair, fifo-byRule}
 use Rattle.laws.proofs.Conserving.{conserving}
 use Rattle.laws.proofs.Cases.{eqb-cases}
 use Rattle.laws.proofs.Entered.{entryOf, rowsBy, rows-said}
-use Rattle.laws.proofs.Standing.{Comes}
 use Rattle.laws.proofs.WellFormed.{course-once}
 use Rattle.theorems.specs.Demand3.{sentAtLeast, rowsRun}
 use Rattle.theorems.proofs.Each.{Each, each-map}

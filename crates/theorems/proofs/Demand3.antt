@@ -11,8 +11,8 @@ use Rattle.model.specs.Course.{Decided, first, runBy}
 use Rattle.model.specs.Refusals.{plainRefusal}
 use Rattle.model.specs.Policies.Greedy.{greedyRule}
 use Rattle.model.specs.Policies.Plan.{planKept, keptRule}
+use Rattle.laws.specs.Accepted.{Comes}
 use Rattle.laws.proofs.Accepted.{plain-accepted}
-use Rattle.laws.proofs.Standing.{Comes}
 use Rattle.laws.proofs.Fifo.{Fair, greedy-fair, kept-fair}
 use Rattle.laws.proofs.Lawful.{lawful-plan}
 use Rattle.theorems.specs.Demand3.{sentAtLeast, rowsRun, PlanObeys, LinesPlan, LinesGreedy, Demand3Plan, Demand3Greedy}

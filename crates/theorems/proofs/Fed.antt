@@ -23,12 +23,12 @@ use Rattle.model.specs.Calls.{runUnless, pgCall}
 use Rattle.model.specs.Port.{PortState, PortOutcome, fresh, sound, all, risesFrom, packetsOf, holding, unlessRefused, makeCall, arriveCall, endOfSlotCall}
 use Rattle.port.proofs.Calls.{making-done, queue-none, slot-idle}
 use Rattle.theorems.proofs.SoundPort.{made-sound}
-use Rattle.laws.proofs.PG.{pgAtOnce}
+use Rattle.laws.specs.AtOnce.{pgAtOnce}
+use Rattle.laws.specs.Accepted.{Comes}
 use Rattle.laws.proofs.Agree.{ends-same as ends-alike}
 use Rattle.laws.proofs.Conserving.{conserving-pg, slotEnds-shorter}
 use Rattle.laws.proofs.FirstFault.{orElse-zero, verdictIf-zero}
 use Rattle.laws.proofs.Accepted.{pg-accepted}
-use Rattle.laws.proofs.Standing.{Comes}
 use Rattle.theorems.specs.Fed.{Feed, endsFed, fedFrom, fed, PortDecidesAsPG, FedByHand}
 use Rattle.theorems.proofs.FedLog.{Log, slotAt, log-append, log-none, log-idle, log-sent}
 use Rattle.theorems.proofs.FedSteps.{Carries, ended, ended-carries, oldest-some, answered}

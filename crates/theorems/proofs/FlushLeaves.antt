@@ -20,12 +20,12 @@ use Rattle.model.specs.Course.{Policy, sendOldest, slotEnds, first}
 use Rattle.model.specs.Policies.Greedy.{greedyRule}
 use Rattle.model.specs.declared.Marking.{Marking}
 use Rattle.model.specs.Policies.MF.{Marked, isMarked, goesWith, markDown, markFrom, marksAfter, unflushed, headMark, mfPolicy, unmarked}
+use Rattle.laws.specs.Accepted.{Comes}
 use Rattle.laws.proofs.Cases.{cond-cases, below-cases}
 use Rattle.laws.proofs.FirstFault.{orElse-zero, verdictIf-zero}
 use Rattle.laws.proofs.Fifo.{greedy-fair, flush-parted}
 use Rattle.laws.proofs.Rising.{Rising, rising-bounds, rising-fair, rising-parted, rising-sent, rising-take}
 use Rattle.laws.proofs.Conserving.{slotEnds-induction}
-use Rattle.laws.proofs.Standing.{Comes}
 use Rattle.laws.proofs.Accepted.{mf-accepted}
 use Rattle.laws.proofs.Room.{zeros}
 use Rattle.theorems.specs.FlushLeaves.{AtEnds, AtEveryEnd, Leaves, FlushLeaves}

@@ -21,8 +21,9 @@ use Rattle.model.specs.Refusals.{makingRefusal, arrivalRefusal}
 use Rattle.model.specs.Answers.{causeNumber}
 use Rattle.model.specs.Port.{PortState, PortOutcome, sound, packetsOf, queueOf, saysOf, nextPacket, unlessRefused, zeroPort, makeCall, arriveCall}
 use Rattle.theorems.proofs.SoundPort.{made-sound}
+use Rattle.laws.specs.Times.{times, timesHeld}
 use Rattle.laws.proofs.Cases.{eqb-cases, cond-cases}
-use Rattle.laws.proofs.Times.{times, times-append, timesHeld}
+use Rattle.laws.proofs.Times.{times-append}
 use Rattle.theorems.specs.Ledger.{Event, arrival, callOn, portAfter, told, replyNumber, givenBy, goneBy, timesIn, LedgerKept, RefusedKeeps, RefusedMaking}
 use Rattle.theorems.proofs.Within.{counts-within}
 use Rattle.theorems.proofs.Turns.{Gives, none, next, turn, stays-sound, no-8}

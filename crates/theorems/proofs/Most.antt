@@ -16,7 +16,7 @@ use Rattle.model.specs.Course.{first}
 use Rattle.model.specs.Rules.{Buffer, Obeys, ObeysFrom, hasFate, countOf, bufferOf}
 use Rattle.theorems.specs.Demand3.{sentAtLeast}
 use Rattle.theorems.proofs.Each.{Each, each-map, each-both}
-use Rattle.laws.proofs.Standing.{Comes}
+use Rattle.laws.specs.Accepted.{Comes}
 use Rattle.theorems.proofs.Trace.{arrivalOf, traceOf}
 use Rattle.theorems.proofs.Sending.{isSentHi, sentBefore, SoFar, before-sent, more-by, before-arrival, so-far}
 use Rattle.theorems.proofs.Fits.{placeIn, after, Fits, fits-less, more, fills, room-now, room-left}

@@ -14,13 +14,15 @@ use Rattle.model.specs.Course.{first}
 use Rattle.model.specs.Policies.MF.{unmarked}
 use Rattle.model.specs.Policies.Plan.{planKept}
 use Rattle.model.specs.Calls.{Outcome, ran, runUnless, greedyCall, pgCall, mfCall, planCall, auditCall}
+use Rattle.laws.specs.Times.{times, timesEntered, timesArriving}
+use Rattle.laws.specs.Recorded.{Sized}
+use Rattle.laws.specs.Accepted.{Accepted}
 use Rattle.laws.proofs.Cases.{eqb-cases}
 use Rattle.laws.proofs.PG.{pg-run}
-use Rattle.laws.proofs.Times.{times, timesEntered, timesArriving}
-use Rattle.laws.proofs.Entered.{EnteredOnce, Sized, blank-sized, entered-sized, entered-all}
+use Rattle.laws.proofs.Entered.{EnteredOnce, blank-sized, entered-sized, entered-all}
 use Rattle.laws.proofs.Conserving.{course-conserves, conserving-greedy, conserving-pg, conserving-kept, conserving-mf}
 use Rattle.laws.proofs.WellFormed.{once-greedy, once-pg, once-mf, once-plan}
-use Rattle.laws.proofs.Accepted.{Accepted, accepted}
+use Rattle.laws.proofs.Accepted.{accepted}
 use Rattle.laws.proofs.Audited.{audit-greedy, audit-pg, audit-mf, audit-plan}
 use Rattle.theorems.specs.OwnRecords.{Planner, greedy, pg, mf, plan, entriesBy, callBy, OwnRecordsPass, OwnRecordsWritten, LentForgotten}
 use Rattle.theorems.proofs.Within.{counts-within}

@@ -17,13 +17,15 @@ use Rattle.model.specs.Refusals.{plainRefusal}
 use Rattle.model.specs.Course.{Policy, byRule, slotEnds, runBy, first}
 use Rattle.model.specs.Policies.Plan.{keptOf, fitsFrom, keptRule}
 use Rattle.model.specs.Totals.{mostHeldFrom}
+use Rattle.laws.specs.Recorded.{recorded}
+use Rattle.laws.specs.MostQueue.{turn, mostQueue}
 use Rattle.laws.proofs.Cases.{eqb-cases}
 use Rattle.laws.proofs.Fifo.{fifo-kept}
 use Rattle.laws.proofs.Conserving.{conserving-kept}
-use Rattle.laws.proofs.Entered.{rowsBy, recorded, rows-said}
+use Rattle.laws.proofs.Entered.{rowsBy, rows-said}
 use Rattle.laws.proofs.WellFormed.{course-once}
-use Rattle.laws.proofs.Standing.{Marks, Stands, turn}
-use Rattle.laws.proofs.Held.{mostQueue, held-agrees, mostHeld-mostQueue}
+use Rattle.laws.proofs.Standing.{Marks, Stands}
+use Rattle.laws.proofs.Held.{held-agrees, mostHeld-mostQueue}
 use Rattle.laws.proofs.Accepted.{plain-accepted}
 use Rattle.theorems.specs.PlanFits.{mostAfterArrivals, ZeroOrOne, FitsIsRun, FitsIsRecord}
 use Rattle.theorems.proofs.SentBy.{ends-next}

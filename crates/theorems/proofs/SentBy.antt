@@ -15,7 +15,8 @@ use Rattle.model.specs.declared.LossKind.the-variants as kinds
 use Rattle.model.specs.Packets.{Arrival, slotsUntil, following}
 use Rattle.model.specs.Record.{Entry, fateNumber, lossFate}
 use Rattle.model.specs.Course.{Decision, Decided, held, rejected, losing, entriesOf, byRule, slotEnds, course}
-use Rattle.laws.proofs.Times.{times, times-append, ofPacket, timesHeld}
+use Rattle.laws.specs.Times.{times, ofPacket, timesHeld}
+use Rattle.laws.proofs.Times.{times-append}
 use Rattle.laws.proofs.Fifo.{Fair, holds, rejects, loses}
 use Rattle.theorems.proofs.Each.{Each, each-append, each-take, each-drop}
 

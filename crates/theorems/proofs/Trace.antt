@@ -12,8 +12,8 @@ use Rattle.model.specs.Limits.{recordLimits, within}
 use Rattle.model.specs.Packets.{Arrival, arrivals, arrivalsFrom}
 use Rattle.model.specs.Record.{Row, Lists, rowsOf, rows}
 use Rattle.model.specs.Refusals.{valueOk, packetRefusalFrom, plainRefusal}
+use Rattle.laws.specs.Recorded.{Sized}
 use Rattle.laws.proofs.FirstFault.{orElse-zero, verdictIf-zero}
-use Rattle.laws.proofs.Entered.{Sized}
 use Rattle.theorems.proofs.Lines.{ValuesTo}
 use Rattle.theorems.proofs.Each.{Each}
 

@@ -25,7 +25,8 @@ use Rattle.port.proofs.Queues.{sound-queue}
 use Rattle.port.proofs.Holding.{queue-held}
 use Rattle.port.proofs.Calls.{arrival-value, arrival-spent, slot-done}
 use Rattle.theorems.proofs.SoundPort.{slot-keeps, arrival-keeps, arrival-taken, never-unsound}
-use Rattle.laws.proofs.Times.{times, times-append, times-without, length-without, ofPacket, timesHeld}
+use Rattle.laws.specs.Times.{times, ofPacket, timesHeld}
+use Rattle.laws.proofs.Times.{times-append, times-without, length-without}
 use Rattle.laws.proofs.Fifo.{Fair, holds, rejects, loses, pg-fair}
 use Rattle.laws.proofs.Room.{roomy-pg}
 use Rattle.laws.proofs.PG.{pg-at-once}

@@ -16,7 +16,7 @@ use Rattle.model.specs.Record.{Row}
 use Rattle.model.specs.Course.{Decided, first}
 use Rattle.model.specs.Rules.{Buffer, Obeys, ObeysFrom, hasFate, countOf, bufferOf}
 use Rattle.theorems.specs.Demand3.{sentAtLeast}
-use Rattle.laws.proofs.Standing.{Comes}
+use Rattle.laws.specs.Accepted.{Comes}
 use Rattle.theorems.proofs.Trace.{arrivalOf, traceOf}
 use Rattle.theorems.proofs.Sending.{isSentHi, sentBefore, SoFar, InOrder, before-sent, one-more, before-arrival, so-far}
 use Rattle.theorems.proofs.Queue.{hi, hiIn, hiRun, hi-append, hi-length, run-hi, run-append, run-without, run-all}

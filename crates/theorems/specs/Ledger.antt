@@ -15,7 +15,7 @@ use Rattle.model.specs.Limits.{within}
 use Rattle.model.specs.Record.{fateNumber}
 use Rattle.model.specs.Answers.{PortReply, causeNumber}
 use Rattle.model.specs.Port.{PortState, PortOutcome, sound, queueOf, zeroPort, makeCall, arriveCall, endOfSlotCall}
-use Rattle.laws.proofs.Times.{times, timesHeld}
+use Rattle.laws.specs.Times.{times, timesHeld}
 
 -- what happens at a port: a packet arrives, of any value, or a slot ends
 pub data Event : Type 0 where

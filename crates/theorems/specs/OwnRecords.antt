@@ -15,8 +15,8 @@ use Rattle.model.specs.declared.Marking.{Marking}
 use Rattle.model.specs.Policies.MF.{mfRun}
 use Rattle.model.specs.Policies.Plan.{planRun}
 use Rattle.model.specs.Calls.{Outcome, greedyCall, pgCall, mfCall, planCall, auditCall}
-use Rattle.laws.proofs.Times.{timesEntered}
-use Rattle.laws.proofs.Entered.{Sized}
+use Rattle.laws.specs.Times.{timesEntered}
+use Rattle.laws.specs.Recorded.{Sized}
 
 -- a policy with its own parameters, or the plan
 pub data Planner : Type 0 where

@@ -12,7 +12,7 @@ use Rattle.model.specs.declared.Tally.{Tally}
 use Rattle.model.specs.Limits.{recordLimits}
 use Rattle.model.specs.Refusals.{valueOk}
 use Rattle.model.specs.Port.{all}
-use Rattle.laws.proofs.WellFormed.{sum}
+use Rattle.laws.specs.WellFormed.{sum}
 use Rattle.checks.proofs.Tests.{all-each, each-all, within-to}
 use Rattle.totals.specs.Totals.{countIn, sumIn, ValuesFit, Countable}
 

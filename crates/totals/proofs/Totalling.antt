@@ -12,8 +12,8 @@ use Rattle.model.specs.Packets.{arrivalsFrom, arrivals}
 use Rattle.model.specs.Record.{Lists, rowsOf, rows, fateNumber}
 use Rattle.model.specs.Rules.{hasFate, countOf}
 use Rattle.model.specs.Totals.{valueOf, tally, totalsOf, mostHeldFrom}
-use Rattle.laws.proofs.Entered.{Sized}
-use Rattle.laws.proofs.WellFormed.{sum}
+use Rattle.laws.specs.Recorded.{Sized}
+use Rattle.laws.specs.WellFormed.{sum}
 use Rattle.totals.specs.Totals.{countIn, sumIn, tallyBy, totalsBy}
 
 -- three lists as long as the trace

@@ -13,7 +13,7 @@ use Rattle.model.specs.Limits.{recordLimits}
 use Rattle.model.specs.Record.{fateNumber}
 use Rattle.model.specs.Totals.{noTotals}
 use Rattle.model.specs.Refusals.{valueOk}
-use Rattle.laws.proofs.WellFormed.{sum}
+use Rattle.laws.specs.WellFormed.{sum}
 
 -- how often a number stands in a list
 unfoldable pub countIn : ℕ → List ℕ → ℕ

@@ -7,7 +7,7 @@ ghost use lib.ListN.{length};
 ghost use lib.Dec.{eqb};
 ghost use Rattle.model.specs.Limits.{recordLimits};
 ghost use Rattle.model.specs.Totals.{noTotals};
-ghost use Rattle.laws.proofs.WellFormed.{sum};
+ghost use Rattle.laws.specs.WellFormed.{sum};
 ghost use Rattle.totals.specs.Totals.{ValuesFit, Countable, tallyBy, CountedOrNone};
 use checks::values_ok;
 use model::Fate;

@@ -10,7 +10,8 @@ use Rattle.audit.specs.declared.Swept.{Swept}
 use Rattle.model.specs.Rules.{Verdict, clear, bufferOf}
 use Rattle.audit.proofs.Answer.{countable, totals-are, on-refused, on-faulty, on-passed}
 use Rattle.model.specs.Packets.{arrivals}
-use Rattle.laws.proofs.Accepted.{Accepted, accepted}
+use Rattle.laws.specs.Accepted.{Accepted}
+use Rattle.laws.proofs.Accepted.{accepted}
 use Rattle.audit.proofs.audit.Statement.{statement}
 use Rattle.model.specs.Record.{listsOf, Lists, rows}
 
