@@ -10,12 +10,15 @@ use lib.Dec.{ltb}
 use borrow.Author.Tests.{lt-ltb, ltb-true}
 use Rattle.model.specs.declared.Beta.{Beta}
 use Rattle.model.specs.declared.Packet.{Packet}
+use Rattle.model.specs.declared.Rule.{Rule}
+use Rattle.model.specs.declared.Rule.the-variants.{Greedy, PG}
 use Rattle.model.specs.declared.LossKind.the-variants.{Preempted}
 use Rattle.model.specs.Packets.{Arrival, nobody, valuesOf}
 use Rattle.model.specs.Course.{Decided, held, losing, runBy, first}
 use Rattle.model.specs.Policies.Greedy.{without, greedyRule}
 use Rattle.model.specs.Policies.PG.{preemptedAt, pgRule, pgRun}
-use Rattle.laws.specs.AtOnce.{pgAtOnce}
+use Rattle.model.specs.Policies.Rule.{ruleOf}
+use Rattle.laws.specs.AtOnce.{pgAtOnce, atOnce}
 use Rattle.laws.proofs.Times.{length-without}
 use Rattle.laws.proofs.Cases.{below-cases}
 use Rattle.laws.proofs.Roomy.{loses-roomy, greedy-roomy}
@@ -62,3 +65,8 @@ module _ (room : ℕ) (beta : Beta) where
   -- so the two make the same run of every trace
   pub pg-run : (trace : List Arrival) → pgRun room beta trace ≡ runBy (pgAtOnce room beta) trace
   pg-run trace = course-same room (pgRule room beta) (pgAtOnce room beta) pg-at-once at-once-roomy first [] trace (omega arith)
+
+-- and so for either rule
+pub rule-run : (room : ℕ) (rule : Rule) (trace : List Arrival) → runBy (ruleOf room rule) trace ≡ runBy (atOnce room rule) trace
+rule-run room Greedy trace = refl
+rule-run room (PG beta) trace = pg-run room beta trace

@@ -22,6 +22,12 @@ pub struct Beta {
     pub den: u32,
 }
 
+// A rule for arrivals: plain greedy, or PG with its beta. They differ in the beta step alone.
+pub enum Rule {
+    Greedy,
+    PG(Beta),
+}
+
 // MF's parameters: the two values, and how many packets one of hi marks.
 pub struct Marking {
     pub lo: u32,

@@ -18,7 +18,7 @@ use Rattle.model.specs.Policies.Greedy.{without}
 use Rattle.model.specs.Answers.{portSays}
 use Rattle.model.specs.Refusals.{valueOk, roomOk, betaOk, makingRefusal, arrivalRefusal}
 use Rattle.model.specs.Port.{PortState, PortOutcome, packetsOf, queueOf, holding, fresh, zeroPort, sound, unlessRefused, saysOf, nextPacket, slotEnd, makeCall, arriveCall, endOfSlotCall}
-use Rattle.queue.specs.declared.Rule.the-variants.{PG}
+use Rattle.model.specs.declared.Rule.the-variants.{PG}
 use Rattle.queue.specs.declared.Choice.{Choice}
 use Rattle.queue.specs.Choose.{choose, applied}
 use Rattle.queue.proofs.Choose.{decided-pg}

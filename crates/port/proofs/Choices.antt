@@ -15,8 +15,8 @@ use Rattle.model.specs.Packets.{valuesOf}
 use Rattle.model.specs.Policies.Greedy.{without, loserAt}
 use Rattle.model.specs.Refusals.{valueOk}
 use Rattle.model.specs.Port.{PortState, queueOf, holding, sound, arriveCall}
-use Rattle.queue.specs.declared.Rule.{Rule}
-use Rattle.queue.specs.declared.Rule.the-variants.{PG}
+use Rattle.model.specs.declared.Rule.{Rule}
+use Rattle.model.specs.declared.Rule.the-variants.{PG}
 use Rattle.queue.specs.declared.Choice.{Choice}
 use Rattle.queue.specs.declared.Choice.the-variants.{Hold, Reject, Lose}
 use Rattle.queue.specs.Choose.{betaPlace, overflowChoice, greedyChoice, choose}

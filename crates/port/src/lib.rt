@@ -27,9 +27,9 @@ use model::Packet;
 use model::PacketNumber;
 use model::Record;
 use model::Refusal;
+use model::Rule;
 use model::SlotAnswer;
 use queue::Choice;
-use queue::Rule;
 use queue::decide;
 
 // Room, beta, the last number given, and the held packets in order: the oldest at place 0, unused places zero.

@@ -16,11 +16,12 @@ use Rattle.model.specs.Policies.Greedy.{greedyRule}
 use Rattle.model.specs.Policies.PG.{preemptedAt, pgRule}
 use Rattle.laws.specs.AtOnce.{pgAtOnce}
 use Rattle.laws.proofs.PG.{pg-at-once}
-use Rattle.queue.specs.declared.Rule.{Rule}
-use Rattle.queue.specs.declared.Rule.the-variants.{Greedy, PG}
+use Rattle.model.specs.declared.Rule.{Rule}
+use Rattle.model.specs.declared.Rule.the-variants.{Greedy, PG}
 use Rattle.queue.specs.declared.Choice.{Choice}
 use Rattle.queue.specs.declared.Choice.the-variants.{Hold, Reject, Lose}
-use Rattle.queue.specs.Choose.{lowestOf, newestOf, ruleOf, overflowChoice, greedyChoice, choose, applied}
+use Rattle.queue.specs.Choose.{lowestOf, newestOf, overflowChoice, greedyChoice, choose, applied}
+use Rattle.laws.specs.AtOnce.{atOnce}
 use Rattle.queue.proofs.Loser.{arrival-loses, held-loses}
 
 module _ (values : List ℕ) (arrival : ℕ) where
@@ -135,7 +136,7 @@ greedy-applied room queue p = simp (values-append, applied-cond, values-length)
 
 -- the rule's decision is the choice applied
 pub decided : (room : ℕ) (rule : Rule) (queue : List Packet) (p : Packet)
-    → ruleOf room rule queue p ≡ applied (choose room rule (valuesOf queue) (p .value)) queue p
+    → atOnce room rule queue p ≡ applied (choose room rule (valuesOf queue) (p .value)) queue p
 unfolding pgAtOnce choose
 decided room Greedy queue p = greedy-applied room queue p ∙ ap (λ (k : Choice). applied k queue p) (sym (plain (valuesOf queue) (p .value) room))
 decided room (PG beta) queue p = simp (applied-cond, values-length, greedy-applied)

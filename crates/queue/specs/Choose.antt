@@ -11,11 +11,10 @@ use Rattle.model.specs.Numbers.{fateNumber}
 use Rattle.model.specs.Record.{lossFate}
 use Rattle.model.specs.Packets.{nobody}
 use Rattle.model.specs.Course.{Decided, held, rejected, losing}
-use Rattle.model.specs.Policies.Greedy.{loserAt, without, greedyRule}
+use Rattle.model.specs.Policies.Greedy.{loserAt, without}
 use Rattle.model.specs.Policies.PG.{preemptedAt}
-use Rattle.laws.specs.AtOnce.{pgAtOnce}
-use Rattle.queue.specs.declared.Rule.{Rule}
-use Rattle.queue.specs.declared.Rule.the-variants.{Greedy, PG}
+use Rattle.model.specs.declared.Rule.{Rule}
+use Rattle.model.specs.declared.Rule.the-variants.{Greedy, PG}
 use Rattle.queue.specs.declared.Choice.{Choice}
 use Rattle.queue.specs.declared.Choice.the-variants.{Hold, Reject, Lose}
 
@@ -29,11 +28,6 @@ unfoldable pub newestOf : ℕ → List ℕ → ℕ
 newestOf value [] = 0
 newestOf value (v ∷ values) =
     cond (ltb (newestOf value values) (length values)) (suc (newestOf value values)) (cond (eqb v value) 0 (suc (length values)))
-
--- what a rule decides: plain greedy, or PG with the arrival held at once where a packet was preempted, which is PG on every queue within the room
-abbrev pub ruleOf : ℕ → Rule → List Packet → Packet → Decided
-ruleOf room Greedy = greedyRule room
-ruleOf room (PG beta) = pgAtOnce room beta
 
 -- the place that the beta step finds; plain greedy has no beta step
 abbrev pub betaPlace : Rule → ℕ → List ℕ → ℕ

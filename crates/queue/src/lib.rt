@@ -5,12 +5,7 @@ ghost use Rattle.queue.specs.Choose.{lowestOf, newestOf, overflowChoice,
 ghost use Rattle.queue.specs.Slide.{slid};
 use model::Beta;
 use model::LossKind;
-
-// Plain greedy, or PG with its beta: they differ in the beta step alone.
-pub enum Rule {
-    Greedy,
-    PG(Beta),
-}
+use model::Rule;
 
 // What becomes of an arrival: it is held, rejected, or held at the cost of the packet at a place.
 pub enum Choice {

@@ -17,7 +17,8 @@ ghost use Rattle.model.specs.Rules.{clear};
 ghost use Rattle.model.specs.Refusals.{plainRefusal};
 ghost use Rattle.model.specs.Policies.MF.{mfPolicy, mfRun, unmarked};
 ghost use Rattle.model.specs.Policies.Plan.{planRun};
-ghost use Rattle.queue.specs.Choose.{ruleOf};
+ghost use Rattle.model.specs.Policies.Rule.{ruleOf};
+ghost use Rattle.laws.specs.AtOnce.{atOnce};
 ghost use Rattle.steps.specs.Calls.{Ready, outcome};
 ghost use Rattle.mf_marks.specs.Mark.{beside};
 ghost use Rattle.runs.specs.Policy.{policyBy, courseBy};
@@ -27,9 +28,9 @@ use crate::run::run;
 use model::Beta;
 use model::Marking;
 use model::Record;
+use model::Rule;
 use model::RunAnswer;
 use plan_kept::keep;
-use queue::Rule;
 use totals::totals;
 use trace::Checked;
 
@@ -61,7 +62,7 @@ fn finish_rule(
     whens: &mut [u32],
     bys: &mut [u32],
 ) -> RunAnswer
-    requires { ⌜ Ready (byRule (ruleOf room rule)) [] (now slots) (now values) (listsOf (now fates) (now whens) (now bys)) ⌝ }
+    requires { ⌜ Ready (byRule (atOnce room rule)) [] (now slots) (now values) (listsOf (now fates) (now whens) (now bys)) ⌝ }
     requires { ⌜ 1 ≤ room ⌝ }
     ensures { λ r. ⌜ outcome r (listsAfter fates whens bys) ≡ ran (was slots) (was values) (runBy (ruleOf room rule) (arrivals (was slots) (was values))) ⌝ }
 {

@@ -12,8 +12,8 @@ use entry::place_of;
 use model::Marking;
 use model::Packet;
 use model::PacketNumber;
+use model::Rule;
 use model::Slot;
-use queue::Rule;
 use steps::Window;
 use steps::moves;
 

@@ -1,7 +1,7 @@
 // The run of plain greedy and PG over an accepted trace. It has a loop of its own: in the run of all other policies it would take three times as long.
 ghost use mathlib.Core.List.{[]};
 ghost use Rattle.model.specs.Course.{byRule};
-ghost use Rattle.queue.specs.Choose.{ruleOf};
+ghost use Rattle.laws.specs.AtOnce.{atOnce};
 ghost use Prim.Native.Nat.{_-_, _≤_, _<_};
 ghost use lib.ListN.{length};
 ghost use Rattle.steps.specs.Window.{Within};
@@ -11,8 +11,8 @@ ghost use Rattle.steps.specs.Run.{Runnable, Ran};
 ghost use Rattle.runs.specs.Policy.{DoesQueueIn};
 use model::Packet;
 use model::PacketNumber;
+use model::Rule;
 use model::Slot;
-use queue::Rule;
 use steps::PLACES;
 use steps::Window;
 use steps::moves::arrive;
@@ -36,7 +36,7 @@ fn turn(
     requires { ⌜ Within w (now numbers) (now values) ⌝ }
     requires { ⌜ w .tail - w .head < length (now values) ⌝ }
     requires { ⌜ 1 ≤ room ⌝ }
-    ensures { λ r. ⌜ DoesQueueIn w r numbers values fates whens bys (turning (ruleOf room rule) before (arrival slot p)) ⌝ }
+    ensures { λ r. ⌜ DoesQueueIn w r numbers values fates whens bys (turning (atOnce room rule) before (arrival slot p)) ⌝ }
 {
     let left = send_until(numbers, values, fates, whens, bys, w, before, slot);
     if left.head == left.tail {
@@ -66,9 +66,9 @@ pub fn run_rule(
     whens: &mut [u32],
     bys: &mut [u32],
 ) -> u32
-    requires { ⌜ Runnable (byRule (ruleOf room rule)) [] (now slots) (now values) ⌝ }
+    requires { ⌜ Runnable (byRule (atOnce room rule)) [] (now slots) (now values) ⌝ }
     requires { ⌜ 1 ≤ room ⌝ }
-    ensures { λ r. ⌜ Ran (byRule (ruleOf room rule)) [] (was slots) (was values) (listsBefore fates whens bys) (listsAfter fates whens bys) r ⌝ }
+    ensures { λ r. ⌜ Ran (byRule (atOnce room rule)) [] (was slots) (was values) (listsBefore fates whens bys) (listsAfter fates whens bys) r ⌝ }
 {
     let mut numbers = [0u32; PLACES];
     let mut held_values = [0u32; PLACES];

@@ -16,7 +16,7 @@ use Rattle.model.specs.Packets.{nobody, valuesOf}
 use Rattle.model.specs.Record.{Lists, enter, entered}
 use Rattle.model.specs.Course.{Decided, byRule}
 use Rattle.model.specs.Policies.Greedy.{loserAt}
-use Rattle.queue.specs.declared.Rule.{Rule}
+use Rattle.model.specs.declared.Rule.{Rule}
 use Rattle.queue.specs.declared.Choice.{Choice}
 use Rattle.queue.specs.declared.Choice.the-variants.{Hold, Reject, Lose}
 use Rattle.queue.specs.Choose.{betaPlace, overflowChoice, greedyChoice, choose, applied}

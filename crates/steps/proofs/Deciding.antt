@@ -15,10 +15,11 @@ use Rattle.model.specs.Packets.{valuesOf}
 use Rattle.model.specs.Record.{Lists, enter, entered, lossFate}
 use Rattle.model.specs.Course.{Decided}
 use Rattle.model.specs.Policies.Greedy.{without}
-use Rattle.queue.specs.declared.Rule.{Rule}
+use Rattle.model.specs.declared.Rule.{Rule}
 use Rattle.queue.specs.declared.Choice.{Choice}
 use Rattle.queue.specs.declared.Choice.the-variants.{Hold, Reject, Lose}
-use Rattle.queue.specs.Choose.{choose, applied, ruleOf}
+use Rattle.queue.specs.Choose.{choose, applied}
+use Rattle.laws.specs.AtOnce.{atOnce}
 use Rattle.queue.proofs.Choose.{decided}
 use Rattle.entry.specs.Entry.{entry}
 use Rattle.steps.specs.declared.Window.{Window}
@@ -100,7 +101,7 @@ module _ (w : Window) (numbers values : List ℕ) (W : Within w numbers values) 
 
     -- the choice made on the window's values is the rule's decision on its queue
     pub by-rule : (room : ℕ) (rule : Rule) (choice : Choice) → choose room rule (part w values) (p .value) ≡ choice
-        → (m : Moved) → Leaves m (applied choice queue p) → Leaves m (ruleOf room rule queue p)
+        → (m : Moved) → Leaves m (applied choice queue p) → Leaves m (atOnce room rule queue p)
     by-rule room rule choice e m d =
         let made : choose room rule (valuesOf queue) (p .value) ≡ choice = ap (λ (vs : List ℕ). choose room rule vs (p .value)) (window-values w numbers values W) ∙ e in
         d ∙ ap (λ (k : Decided). deciding (arrival slot p) k all before) (sym (decided room rule queue p ∙ ap (λ (k : Choice). applied k queue p) made))

@@ -15,10 +15,11 @@ use Rattle.model.specs.Port.{packetsOf}
 use Rattle.model.specs.Record.{Lists, entered}
 use Rattle.model.specs.Course.{Decided, heldIf, byRule, slotEnds}
 use Rattle.model.specs.Policies.Greedy.{without}
-use Rattle.queue.specs.declared.Rule.{Rule}
+use Rattle.model.specs.declared.Rule.{Rule}
 use Rattle.queue.specs.declared.Choice.{Choice}
 use Rattle.queue.specs.declared.Choice.the-variants.{Hold, Reject, Lose}
-use Rattle.queue.specs.Choose.{choose, applied, ruleOf}
+use Rattle.queue.specs.Choose.{choose, applied}
+use Rattle.laws.specs.AtOnce.{atOnce}
 use Rattle.queue.proofs.Choose.{decided}
 use Rattle.queue.proofs.Packets.{packets-drop}
 use Rattle.steps.specs.declared.Window.{Window}
@@ -109,15 +110,15 @@ module _ (w : Window) (numbers values : List ℕ) where
         same false = refl
 
     pub arrived-steps : (room : ℕ) (rule : Rule) (a : Arrival) (before after : Lists) (r : Window) (numbers′ values′ : List ℕ)
-        → moved (lent r numbers′ values′) after ≡ arrivingIn (ruleOf room rule) a all before
-        → Stepped (arriving (ruleOf room rule) a queue) before r numbers′ values′ after
+        → moved (lent r numbers′ values′) after ≡ arrivingIn (atOnce room rule) a all before
+        → Stepped (arriving (atOnce room rule) a queue) before r numbers′ values′ after
     unfolding arrivingIn
     arrived-steps room rule a before after r numbers′ values′ e =
-        decided-steps (ruleOf room rule) a (choose room rule (valuesOf queue) (a .packet .value))
+        decided-steps (atOnce room rule) a (choose room rule (valuesOf queue) (a .packet .value))
         (subst (λ (n : ℕ). Inside n (choose room rule (valuesOf queue) (a .packet .value))) (length-map queue (λ (p : Packet). p .value))
         (chosen-inside room rule (valuesOf queue) (a .packet .value)))
         (decided room rule queue (a .packet)) (lent r numbers′ values′) before after
-        (e ∙ ap (λ (t : Bool). cond t (deciding a (ruleOf room rule queue (a .packet)) all before) (moved all before)) free)
+        (e ∙ ap (λ (t : Bool). cond t (deciding a (atOnce room rule queue (a .packet)) all before) (moved all before)) free)
 
   module _ (W : Within w numbers values) where
     -- the window without its oldest k packets

@@ -4,7 +4,7 @@ ghost use mathlib.Core.Path.{_≡_};
 ghost use mathlib.Core.List.{[]};
 ghost use Rattle.model.specs.Course.{heldIf};
 ghost use Rattle.model.specs.Lent.{listsAfter};
-ghost use Rattle.queue.specs.Choose.{ruleOf};
+ghost use Rattle.laws.specs.AtOnce.{atOnce};
 ghost use Rattle.steps.specs.Window.{Oldest};
 ghost use Rattle.steps.specs.Step.{arrival};
 ghost use Rattle.steps.specs.Guarded.{Guarded, liesWithin, hasPlace};
@@ -13,9 +13,9 @@ use crate::Window;
 use crate::held;
 use crate::step;
 use model::Packet;
+use model::Rule;
 use model::Slot;
 use model::SlotAnswer;
-use queue::Rule;
 
 // Whether a window lies within its two lists, which are equally long.
 pub fn lies_within(numbers: &[u32], values: &[u32], w: Window) -> bool
@@ -111,7 +111,7 @@ pub fn arrive(
     slot: Slot,
     p: Packet,
 ) -> Window
-    ensures { λ r. ⌜ Moves w r numbers values fates whens bys (arrivingIn (ruleOf room rule) (arrival slot p)) ⌝ }
+    ensures { λ r. ⌜ Moves w r numbers values fates whens bys (arrivingIn (atOnce room rule) (arrival slot p)) ⌝ }
 {
     if !has_place(numbers, values, w) {
         return w;

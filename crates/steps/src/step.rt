@@ -3,7 +3,8 @@ ghost use Prim.Native.Nat.{_+_, _-_, _<_};
 ghost use lib.ListN.{length};
 ghost use Rattle.model.specs.Course.{heldIf};
 ghost use Rattle.model.specs.Lent.{listsAfter};
-ghost use Rattle.queue.specs.Choose.{ruleOf, applied};
+ghost use Rattle.queue.specs.Choose.{applied};
+ghost use Rattle.laws.specs.AtOnce.{atOnce};
 ghost use Rattle.steps.specs.Window.{Within};
 ghost use Rattle.steps.specs.Step.{arrival, sending};
 ghost use Rattle.steps.specs.Lent.{lentBefore, moved, movedFrom, Moves, decidingBy, SentIn};
@@ -16,10 +17,10 @@ use model::Fate;
 use model::LossKind;
 use model::Packet;
 use model::PacketNumber;
+use model::Rule;
 use model::Slot;
 use model::SlotAnswer;
 use queue::Choice;
-use queue::Rule;
 use queue::decide;
 
 // The ends of the slots from `from` on, up to slot `until`: at each the oldest packet is sent. On idle the run goes straight on.
@@ -120,7 +121,7 @@ pub fn arrive(
 ) -> Window
     requires { ⌜ Within w (now numbers) (now values) ⌝ }
     requires { ⌜ w .tail - w .head < length (now values) ⌝ }
-    ensures { λ r. ⌜ Moves w r numbers values fates whens bys (decidingBy (ruleOf room rule) (arrival slot p)) ⌝ }
+    ensures { λ r. ⌜ Moves w r numbers values fates whens bys (decidingBy (atOnce room rule) (arrival slot p)) ⌝ }
 {
     let head = w.head;
     let tail = w.tail;

@@ -17,7 +17,7 @@ use Rattle.model.specs.Refusals.{valueOk, roomOk, betaOk, arrivalRefusal}
 use Rattle.model.specs.Rules.{orElse}
 use Rattle.model.specs.Policies.PG.{preemptedAt, pgRule}
 use Rattle.model.specs.Port.{PortState, PortOutcome, queueOf, fresh, holding, all, risesFrom, sound, slotEnd, saysOf, nextPacket, unlessRefused, makeCall, arriveCall}
-use Rattle.queue.specs.declared.Rule.the-variants.{PG}
+use Rattle.model.specs.declared.Rule.the-variants.{PG}
 use Rattle.queue.specs.declared.Choice.{Choice}
 use Rattle.queue.specs.declared.Choice.the-variants.{Hold, Reject, Lose}
 use Rattle.queue.specs.Choose.{choose, greedyChoice}

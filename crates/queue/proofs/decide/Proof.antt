@@ -1,6 +1,6 @@
 -- Each arm of the match is the choice under its rule.
 use mathlib.Core.Path.{_∙_, sym, ap}
-use Rattle.queue.specs.declared.Rule.{Rule}
+use Rattle.model.specs.declared.Rule.{Rule}
 use Rattle.queue.specs.Choose.{choose, ofChoice}
 use Rattle.queue.proofs.Choose.{plain}
 use borrow.Author.Needs.{needs}

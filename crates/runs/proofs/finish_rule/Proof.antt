@@ -1,8 +1,12 @@
--- The run writes the record and answers its greatest length, from which and from the record the totals are counted.
+-- The run writes the record and answers its greatest length, from which and from the record the totals are counted. PG as the code decides it makes the run of PG.
+use mathlib.Core.Path.{sym, ap, _∙_}
 use mathlib.Core.List.{[]}
 use Rattle.model.specs.Record.{listsOf}
 use Rattle.model.specs.Course.{byRule}
-use Rattle.queue.specs.Choose.{ruleOf}
+use Rattle.model.specs.Calls.{ran}
+use Rattle.model.specs.Packets.{arrivals}
+use Rattle.laws.proofs.PG.{rule-run}
+use Rattle.laws.specs.AtOnce.{atOnce}
 use Rattle.steps.proofs.Answering.{finished}
 use borrow.Author.Needs.{needs}
 use Rattle.runs.proofs.finish_rule.Statement.{statement}
@@ -28,8 +32,9 @@ returns c =
     let start = c .before .before .before .before .before .before .before .before .before .before .before .before .before .before .before .before .before in
     let a = start .args in
     let done = c .before .before .before .before .before .before .before .before .run-rule in
-    finished (byRule (ruleOf (a .room) (a .rule))) [] (a .slots .now) (a .values .now) (listsOf (a .fates .now) (a .whens .now) (a .bys .now)) (start .pre .0)
+    finished (byRule (atOnce (a .room) (a .rule))) [] (a .slots .now) (a .values .now) (listsOf (a .fates .now) (a .whens .now) (a .bys .now)) (start .pre .0)
     (listsOf (done .last .1 .1 .1 .1 .0) (done .last .1 .1 .1 .1 .1 .0) (done .last .1 .1 .1 .1 .1 .1 .0)) (done .result) (done .ensures) (c .totals .result) (c .totals .ensures)
+    ∙ ap (ran (a .slots .now) (a .values .now)) (sym (rule-run (a .room) (a .rule) (arrivals (a .slots .now) (a .values .now))))
 
 pub finish-rule-spec : {M : Type 1} → statement M
 finish-rule-spec =

@@ -1,11 +1,9 @@
 -- A refusal of the test is the answer; an accepted trace is one on which the policy can run.
 use mathlib.Core.Path.{sym, ap, _∙_}
-use Rattle.model.specs.Calls.{ran, pgCall}
+use Rattle.model.specs.Calls.{pgCall}
 use Rattle.trace.specs.Checked.{verdictOf}
 use Rattle.steps.proofs.Answering.{refused, not-refused}
 use Rattle.runs.proofs.Ready.{pg-ready}
-use Rattle.model.specs.Packets.{arrivals}
-use Rattle.laws.proofs.PG.{pg-run}
 use borrow.Author.Needs.{needs}
 use Rattle.runs.proofs.pg.Statement.{statement}
 use Rattle.runs.proofs.pg.Tie as tie
@@ -57,7 +55,6 @@ returns-2 c =
     let a = start .args in
     let accepted = ap verdictOf (sym (c .before .before .before .before .before .before .before .before .before .before .enum-told .given .1)) ∙ c .before .before .before .before .before .before .before .before .before .before .before .before .check-pg .ensures in
     c .before .before .before .before .before .before .finish-rule .ensures
-    ∙ ap (ran (a .slots .now) (a .values .now)) (sym (pg-run (a .room) (a .beta) (arrivals (a .slots .now) (a .values .now))))
     ∙ not-refused _ _ _ accepted
 
 pub pg-spec : {M : Type 1} → statement M

@@ -2,7 +2,7 @@
 use mathlib.Core.Path.{refl}
 use Rattle.model.specs.Record.{listsOf}
 use Rattle.model.specs.Policies.Plan.{keptRule}
-use Rattle.queue.specs.declared.Rule.the-variants.{Greedy}
+use Rattle.model.specs.declared.Rule.the-variants.{Greedy}
 use Rattle.steps.specs.Window.{windowOf}
 use Rattle.steps.specs.Step.{arrival, sending}
 use Rattle.steps.proofs.Guarding.{free-place}

@@ -6,7 +6,7 @@ use native.Mathlib.Omega.{arith}
 use lib.ListN.{length}
 use borrow.Author.Needs.{needs}
 use Rattle.model.specs.Record.{listsOf}
-use Rattle.queue.specs.Choose.{ruleOf}
+use Rattle.laws.specs.AtOnce.{atOnce}
 use Rattle.steps.proofs.Lending.{sent-steps}
 use Rattle.runs.proofs.Running.{Ruled, ruled-start, ruled-free, ruled-turn, ruled-end}
 use Rattle.runs.proofs.rule.run_rule.Statement.{statement}
@@ -17,7 +17,7 @@ Inv-loop slots values room rule fates₀ whens₀ bys₀ numbers₀ held₀ w₀
     (length fates ≡ length fates₀)
     × (length whens ≡ length whens₀)
     × (length bys ≡ length bys₀)
-    × Ruled (ruleOf room rule) slots values (listsOf fates₀ whens₀ bys₀) numbers held (w .head) (w .tail) (last .0) most i (listsOf fates whens bys)
+    × Ruled (atOnce room rule) slots values (listsOf fates₀ whens₀ bys₀) numbers held (w .head) (w .tail) (last .0) most i (listsOf fates whens bys)
 
 abbrev μ-loop : tie.MeasureT-loop
 μ-loop slots values room rule fates₀ whens₀ bys₀ numbers₀ held₀ w₀ last₀ most₀ i₀ fates whens bys numbers held w last most i = length slots - i
@@ -26,7 +26,7 @@ loop-holds : tie.Need-loop-holds Inv-loop μ-loop
 loop-holds c =
     let start = c .before .before .before .before .before in
     let a = start .args in
-    (refl, refl, refl, ruled-start (ruleOf (a .room) (a .rule)) (a .slots .now) (a .values .now) (listsOf (a .fates .now) (a .whens .now) (a .bys .now)) _ _ (search needs) (search needs))
+    (refl, refl, refl, ruled-start (atOnce (a .room) (a .rule)) (a .slots .now) (a .values .now) (listsOf (a .fates .now) (a .whens .now) (a .bys .now)) _ _ (search needs) (search needs))
 
 mul-arrives : tie.Need-mul-arrives Inv-loop μ-loop
 mul-arrives c = search needs
@@ -57,7 +57,7 @@ turn-requires c κs =
     let start = c .before .before .before .before .before .before .before .before .before .before .before .before .before .before in
     let a = start .args in
     let loop = c .before .before .before .before .before .before .before .before .loop in
-    (loop .inv .3 .within, (ruled-free (ruleOf (a .room) (a .rule)) (a .slots .now) (a .values .now) (listsOf (a .fates .now) (a .whens .now) (a .bys .now)) (start .pre .0) (loop .numbers) (loop .held-values) (loop .w .head) (loop .w .tail) (loop .last .0) (loop .most) (loop .i) (listsOf (loop .fates) (loop .whens) (loop .bys)) (loop .inv .3), start .pre .1))
+    (loop .inv .3 .within, (ruled-free (atOnce (a .room) (a .rule)) (a .slots .now) (a .values .now) (listsOf (a .fates .now) (a .whens .now) (a .bys .now)) (start .pre .0) (loop .numbers) (loop .held-values) (loop .w .head) (loop .w .tail) (loop .last .0) (loop .most) (loop .i) (listsOf (loop .fates) (loop .whens) (loop .bys)) (loop .inv .3), start .pre .1))
 
 sub-length : tie.Need-sub-length Inv-loop μ-loop
 sub-length c = omega (arith, c .before .before .before .before .before .before .before .before .before .turn .ensures .within .ordered)
@@ -78,7 +78,7 @@ loop-again c =
       taken .kept .1 .1 .0 ∙ loop .inv .0,
       taken .kept .1 .1 .1 .0 ∙ loop .inv .1,
       taken .kept .1 .1 .1 .1 .0 ∙ loop .inv .2,
-      ruled-turn (ruleOf (a .room) (a .rule)) (a .slots .now) (a .values .now) (listsOf (a .fates .now) (a .whens .now) (a .bys .now)) (start .pre .0) (loop .numbers) (loop .held-values) (loop .w .head) (loop .w .tail) (loop .last .0) (loop .most) (loop .i) (listsOf (loop .fates) (loop .whens) (loop .bys)) (loop .inv .3) (c .before .before .before .before .before .before .before .before .before .before .before .before .before .before .before .before .before .before .loop-test .taken)
+      ruled-turn (atOnce (a .room) (a .rule)) (a .slots .now) (a .values .now) (listsOf (a .fates .now) (a .whens .now) (a .bys .now)) (start .pre .0) (loop .numbers) (loop .held-values) (loop .w .head) (loop .w .tail) (loop .last .0) (loop .most) (loop .i) (listsOf (loop .fates) (loop .whens) (loop .bys)) (loop .inv .3) (c .before .before .before .before .before .before .before .before .before .before .before .before .before .before .before .before .before .before .loop-test .taken)
           (taken .result) (taken .last .0) (taken .last .1 .0) (listsOf (taken .last .1 .1 .0) (taken .last .1 .1 .1 .0) (taken .last .1 .1 .1 .1 .0)) (c .if1 .most) (taken .ensures) (taken .kept .1 .0) most,
     )
 
@@ -90,14 +90,14 @@ cast-slots-left c =
     let start = c .before .before .before .before .before .before .before .before in
     let a = start .args in
     let loop = c .before .before .loop in
-    omega (arith, ruled-free (ruleOf (a .room) (a .rule)) (a .slots .now) (a .values .now) (listsOf (a .fates .now) (a .whens .now) (a .bys .now)) (start .pre .0) (loop .numbers) (loop .held-values) (loop .w .head) (loop .w .tail) (loop .last .0) (loop .most) (loop .i) (listsOf (loop .fates) (loop .whens) (loop .bys)) (loop .inv .3), loop .inv .3 .places)
+    omega (arith, ruled-free (atOnce (a .room) (a .rule)) (a .slots .now) (a .values .now) (listsOf (a .fates .now) (a .whens .now) (a .bys .now)) (start .pre .0) (loop .numbers) (loop .held-values) (loop .w .head) (loop .w .tail) (loop .last .0) (loop .most) (loop .i) (listsOf (loop .fates) (loop .whens) (loop .bys)) (loop .inv .3), loop .inv .3 .places)
 
 add-end : tie.Need-add-end Inv-loop μ-loop
 add-end c =
     let start = c .before .before .before .before .before .before .before .before .before in
     let a = start .args in
     let loop = c .before .before .before .loop in
-    omega (arith, ruled-free (ruleOf (a .room) (a .rule)) (a .slots .now) (a .values .now) (listsOf (a .fates .now) (a .whens .now) (a .bys .now)) (start .pre .0) (loop .numbers) (loop .held-values) (loop .w .head) (loop .w .tail) (loop .last .0) (loop .most) (loop .i) (listsOf (loop .fates) (loop .whens) (loop .bys)) (loop .inv .3), loop .inv .3 .places, loop .inv .3 .course .last-fits)
+    omega (arith, ruled-free (atOnce (a .room) (a .rule)) (a .slots .now) (a .values .now) (listsOf (a .fates .now) (a .whens .now) (a .bys .now)) (start .pre .0) (loop .numbers) (loop .held-values) (loop .w .head) (loop .w .tail) (loop .last .0) (loop .most) (loop .i) (listsOf (loop .fates) (loop .whens) (loop .bys)) (loop .inv .3), loop .inv .3 .places, loop .inv .3 .course .last-fits)
 
 slice-aggregate-send-until : tie.Need-slice-aggregate-send-until Inv-loop μ-loop
 slice-aggregate-send-until c = search needs
@@ -127,7 +127,7 @@ returns c =
     let loop = c .before .before .before .before .before .before .before .before .before .before .before .before .before .before .before .loop in
     let sent = c .before .before .before .before .before .before .send-until in
     let after = listsOf (sent .last .1 .1 .0) (sent .last .1 .1 .1 .0) (sent .last .1 .1 .1 .1 .0) in
-    ruled-end (ruleOf (a .room) (a .rule)) (a .slots .now) (a .values .now) (listsOf (a .fates .now) (a .whens .now) (a .bys .now)) (start .pre .0) (loop .numbers) (loop .held-values) (loop .w .head) (loop .w .tail) (loop .last .0) (loop .most) (loop .i) (listsOf (loop .fates) (loop .whens) (loop .bys)) (loop .inv .3) (c .before .before .before .before .before .before .before .before .before .before .before .before .before .before .loop-test .left)
+    ruled-end (atOnce (a .room) (a .rule)) (a .slots .now) (a .values .now) (listsOf (a .fates .now) (a .whens .now) (a .bys .now)) (start .pre .0) (loop .numbers) (loop .held-values) (loop .w .head) (loop .w .tail) (loop .last .0) (loop .most) (loop .i) (listsOf (loop .fates) (loop .whens) (loop .bys)) (loop .inv .3) (c .before .before .before .before .before .before .before .before .before .before .before .before .before .before .loop-test .left)
     (sent .result) after (record { 0 = loop .last .0 + (loop .w .tail - loop .w .head) }) refl
     (sent-steps (loop .w) (loop .numbers) (loop .held-values) (loop .inv .3 .within) (loop .last) (record { 0 = loop .last .0 + (loop .w .tail - loop .w .head) }) (listsOf (loop .fates) (loop .whens) (loop .bys)) after (sent .result) (sent .ensures))
 

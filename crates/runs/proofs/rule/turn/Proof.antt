@@ -2,7 +2,7 @@
 use mathlib.Core.Path.{_≡_}
 use native.Mathlib.Omega.{arith}
 use lib.ListN.{length}
-use Rattle.queue.specs.Choose.{ruleOf}
+use Rattle.laws.specs.AtOnce.{atOnce}
 use Rattle.queue.specs.declared.Choice.the-variants.{Hold}
 use Rattle.steps.specs.Window.{windowOf}
 use Rattle.steps.specs.Step.{arrival}
@@ -48,9 +48,9 @@ returns c =
     let holding = c .before .before .before .before .hold in
     let queue = windowOf (sent .result) (a .numbers .now) (a .values .now) in
     let none : length queue ≡ 0 = omega (arith, window-length (sent .result) (a .numbers .now) (a .values .now) (stepped .within), c .before .before .before .before .before .before .before .if1 .taken) in
-    turned (ruleOf (a .room) (a .rule)) (a .before) (arrival (a .slot) (a .p)) (windowOf (a .w) (a .numbers .now) (a .values .now)) _ _ _ (sent .result) (holding .result)
+    turned (atOnce (a .room) (a .rule)) (a .before) (arrival (a .slot) (a .p)) (windowOf (a .w) (a .numbers .now) (a .values .now)) _ _ _ (sent .result) (holding .result)
     (a .numbers .now) (a .values .now) (holding .last .0) (holding .last .1 .0) stepped
-    (by-choice (sent .result) (a .numbers .now) (a .values .now) (stepped .within) (a .slot) (a .p) _ (ruleOf (a .room) (a .rule)) Hold (holds-at-once (a .room) (a .rule) queue (a .p) (start .pre .1 .1) none)
+    (by-choice (sent .result) (a .numbers .now) (a .values .now) (stepped .within) (a .slot) (a .p) _ (atOnce (a .room) (a .rule)) Hold (holds-at-once (a .room) (a .rule) queue (a .p) (start .pre .1 .1) none)
     (holding .result) (holding .last .0) (holding .last .1 .0) _
     (held (sent .result) (a .numbers .now) (a .values .now) (stepped .within) (a .slot) (a .p) _ (holding .result) (holding .last .0) (holding .last .1 .0) (held-holds (sent .result) (a .numbers .now) (a .values .now) free (a .p) (holding .result) (holding .last .0) (holding .last .1 .0) (holding .ensures))))
 
@@ -81,7 +81,7 @@ returns-2 c =
     let stepped = sent-steps (a .w) (a .numbers .now) (a .values .now) (start .pre .0) (a .before) (a .slot) (listsOf (a .fates .now) (a .whens .now) (a .bys .now)) between (sent .result) (sent .ensures) in
     let free = free-place (sent .result) (a .numbers .now) (a .values .now) (stepped .within) (sent-free (a .before) (a .slot) (a .w) (a .numbers .now) (a .values .now) _ _ (sent .result) (start .pre .0) (start .pre .1 .0) stepped) in
     let arrived = c .before .before .before .before .before .before .before .before .before .before .arrive in
-    turned (ruleOf (a .room) (a .rule)) (a .before) (arrival (a .slot) (a .p)) (windowOf (a .w) (a .numbers .now) (a .values .now)) _ _ _ (sent .result) (arrived .result)
+    turned (atOnce (a .room) (a .rule)) (a .before) (arrival (a .slot) (a .p)) (windowOf (a .w) (a .numbers .now) (a .values .now)) _ _ _ (sent .result) (arrived .result)
     (a .numbers .now) (a .values .now) (arrived .last .0) (arrived .last .1 .0) stepped
     (arrived-steps (sent .result) (a .numbers .now) (a .values .now) free (a .room) (a .rule) (arrival (a .slot) (a .p)) between (listsOf (arrived .last .1 .1 .0) (arrived .last .1 .1 .1 .0) (arrived .last .1 .1 .1 .1 .0)) (arrived .result) (arrived .last .0) (arrived .last .1 .0) (arrived .ensures))
 

@@ -2,7 +2,7 @@
 use mathlib.Core.Path.{sym, _∙_}
 use borrow.Author.Tests.{not-true, not-false}
 use Rattle.steps.proofs.Guarding.{place-within, place-free}
-use Rattle.queue.specs.Choose.{ruleOf}
+use Rattle.laws.specs.AtOnce.{atOnce}
 use Rattle.model.specs.Record.{listsOf}
 use Rattle.steps.specs.Step.{arrival}
 use Rattle.steps.specs.Lent.{lent, moved}
@@ -23,7 +23,7 @@ same-length-2 c = search needs
 returns : tie.Need-returns
 returns c =
     let a = c .before .before .before .before .before .before .before .before .before .args in
-    none-arrives (a .w) (a .numbers .now) (a .values .now) (ruleOf (a .room) (a .rule)) (arrival (a .slot) (a .p)) (listsOf (a .fates .now) (a .whens .now) (a .bys .now)) (sym (c .before .has-place .ensures) ∙ not-true _ (c .if1 .taken))
+    none-arrives (a .w) (a .numbers .now) (a .values .now) (atOnce (a .room) (a .rule)) (arrival (a .slot) (a .p)) (listsOf (a .fates .now) (a .whens .now) (a .bys .now)) (sym (c .before .has-place .ensures) ∙ not-true _ (c .if1 .taken))
 
 arrive-requires : tie.Need-arrive-requires
 arrive-requires c κs = let a = c .before .before .before .before .before .before .before .before .before .before .before .before .before .before .args in let place = sym (c .before .before .before .before .before .before .has-place .ensures) ∙ not-false _ (c .before .before .before .before .before .if1 .left) in (place-within (a .w) (a .numbers .now) (a .values .now) place, place-free (a .w) (a .numbers .now) (a .values .now) place)
@@ -47,7 +47,7 @@ returns-2 : tie.Need-returns-2
 returns-2 c =
     let a = c .before .before .before .before .before .before .before .before .before .before .before .before .before .before .before .before .before .before .before .before .before .before .before .before .before .args in
     let done = c .before .before .before .before .before .before .before .before .before .before .arrive in
-    arrival-kept (a .w) (a .numbers .now) (a .values .now) (ruleOf (a .room) (a .rule)) (arrival (a .slot) (a .p)) (listsOf (a .fates .now) (a .whens .now) (a .bys .now))
+    arrival-kept (a .w) (a .numbers .now) (a .values .now) (atOnce (a .room) (a .rule)) (arrival (a .slot) (a .p)) (listsOf (a .fates .now) (a .whens .now) (a .bys .now))
     (moved (lent (done .result) (done .last .0) (done .last .1 .0)) (listsOf (done .last .1 .1 .0) (done .last .1 .1 .1 .0) (done .last .1 .1 .1 .1 .0)))
     (sym (c .before .before .before .before .before .before .before .before .before .before .before .before .before .before .before .before .before .has-place .ensures) ∙ not-false _ (c .before .before .before .before .before .before .before .before .before .before .before .before .before .before .before .before .if1 .left)) (done .ensures)
 
