@@ -1,10 +1,11 @@
 -- Why what is kept is the plan's: nothing is kept and nothing held before the first packet is taken, and the packets are taken in the plan's order.
 use Prim.Native.Nat.{ℕ, _≤_}
 use mathlib.Core.Path.{_≡_, refl, sym, ap, _∙_}
-use mathlib.Core.Bool.{true, false}
+use mathlib.Core.Bool.{Bool, true, false, _&&_, cond}
 use mathlib.Core.List.{List, _++_}
 use native.Mathlib.Omega.{arith}
 use lib.ListN.{length, replicate, length-append, length-replicate}
+use lib.Dec.{eqb}
 use borrow.Author.Tests.{eq-eqb, ne-eqb}
 use Rattle.model.specs.declared.Refusal.{Refusal}
 use Rattle.model.specs.Packets.{arrivals}
@@ -13,8 +14,6 @@ use Rattle.model.specs.Rules.{Verdict, clear}
 use Rattle.model.specs.Refusals.{valueOk, plainRefusal}
 use Rattle.model.specs.Answers.{causeNumber}
 use Rattle.model.specs.Policies.Plan.{keepInTurn, planKept}
-use Rattle.trace.specs.declared.Checked.{Checked}
-use Rattle.trace.specs.Checked.{verdictOf}
 use Rattle.laws.specs.Accepted.{Accepted}
 use Rattle.laws.proofs.Accepted.{accepted}
 use Rattle.steps.specs.Guarded.{Guarded}
@@ -23,11 +22,7 @@ use Rattle.steps.proofs.Places.{arrivals-length}
 use Rattle.trace.proofs.Laws.{cause-refuses}
 use Rattle.plan_order.specs.Order.{Inside, entryForEach, OrderedFrom}
 use Rattle.plan_order.proofs.Merging.{each-has-entry}
-use Rattle.plan_kept.specs.Keep.{Keepable, TakenInTurn, accepts}
-
--- what the test's answer is found to be is its verdict
-pub told : (slots values : List ℕ) (room : ℕ) (lists : Lists) {r s : Checked} → r ≡ s → verdictOf r ≡ plainRefusal slots values room lists → verdictOf s ≡ plainRefusal slots values room lists
-told slots values room lists e v = ap verdictOf (sym e) ∙ v
+use Rattle.plan_kept.specs.Keep.{Keepable, TakenInTurn, keptAfter}
 
 -- the part of a list that was written is within it
 pub part-fits : (n : ℕ) (part rest : List ℕ) → length part ≡ n → n ≤ length (part ++ rest)
@@ -38,9 +33,19 @@ module _ (slots values : List ℕ) (room : ℕ) where
   abbrev pub AcceptedAlone : Type 0
   AcceptedAlone = Accepted valueOk slots values room (listsOf slots slots slots)
 
-  pub clear-accepted : clear ≡ plainRefusal slots values room (listsOf slots slots slots) → AcceptedAlone
+  pub clear-accepted : (lists : Lists) → clear ≡ plainRefusal slots values room lists → AcceptedAlone
   unfolding plainRefusal
-  clear-accepted e = accepted clear valueOk slots values room (listsOf slots slots slots) (ap (λ (v : Verdict). v .number) (sym e))
+  clear-accepted lists e =
+      let A = accepted clear valueOk slots values room lists (ap (λ (v : Verdict). v .number) (sym e)) in
+      record {
+        lengths = A .lengths;
+        sized = record { fates = refl; whens = refl; bys = refl };
+        few = A .few;
+        room-from = A .room-from;
+        room-to = A .room-to;
+        packets = A .packets;
+        comes = A .comes;
+      }
 
   module _ (A : AcceptedAlone) where
     pub none-keepable : (kept : List ℕ) → kept ≡ replicate (length slots) 0 → Keepable slots room kept
@@ -68,18 +73,20 @@ module _ (slots values : List ℕ) (room : ℕ) where
           ∙ ap (λ (k : List ℕ). keepInTurn room (arrivals slots values) k (packetsAt slots values order)) (none ∙ ap (λ (n : ℕ). replicate n 0) (sym (arrivals-length 1 slots values (A .lengths))))
           ∙ ap (keepInTurn room (arrivals slots values) (replicate (length (arrivals slots values)) 0)) (ordered .by-value slots (sym (A .lengths)))
 
--- the test of the length, and that of the trace, decide
+-- what becomes of `kept`
 module _ (slots values : List ℕ) (room : ℕ) (kept : List ℕ) where
-  pub short-refused : (length kept ≡ length slots → ⊥) → accepts slots values room kept ≡ false
-  unfolding accepts
-  short-refused n = simp (ne-eqb _ _ n)
+  pub short-same : (v : Verdict) → (length kept ≡ length slots → ⊥) → kept ≡ keptAfter v slots values room kept
+  unfolding keptAfter
+  short-same v n = rw (ne-eqb _ _ n) (either (eqb (v .number) 0))
+    where
+      either : (t : Bool) → kept ≡ cond (t && false) (planKept room (arrivals slots values)) kept
+      either true = refl
+      either false = refl
 
-  module _ (same : length kept ≡ length slots) where
-    pub all-accepted : clear ≡ plainRefusal slots values room (listsOf slots slots slots) → accepts slots values room kept ≡ true
-    unfolding accepts
-    all-accepted e = rw (eq-eqb _ _ same, ← e) refl
+  pub accepted-kept : (v : Verdict) → clear ≡ v → length kept ≡ length slots → keptAfter v slots values room kept ≡ planKept room (arrivals slots values)
+  unfolding keptAfter
+  accepted-kept v e same = rw (← e, eq-eqb _ _ same)
 
-    pub trace-refused : (f : Refusal) → record { number = causeNumber (f .cause); place = f .place } ≡ plainRefusal slots values room (listsOf slots slots slots)
-        → accepts slots values room kept ≡ false
-    unfolding accepts
-    trace-refused f e = rw (eq-eqb _ _ same, ← e, cause-refuses (f .cause)) refl
+  pub refused-same : (f : Refusal) {v : Verdict} → record { number = causeNumber (f .cause); place = f .place } ≡ v → kept ≡ keptAfter v slots values room kept
+  unfolding keptAfter
+  refused-same f e = rw (← e, cause-refuses (f .cause)) refl

@@ -1,15 +1,18 @@
 -- What keeping packets in turn needs and gives. Whether packets fit is a matter of slots: it is stated for packets of whatever values.
 use Prim.Native.Nat.{ℕ, suc, min, _+_, _-_, _≤_, _<_}
 use mathlib.Core.Path.{_≡_}
-use mathlib.Core.Bool.{Bool, false, _&&_}
+use mathlib.Core.Bool.{Bool, false, _&&_, cond}
 use mathlib.Core.List.{List}
 use lib.ListN.{length, getD, set}
 use lib.Dec.{eqb}
 use Rattle.model.specs.Limits.{portLimits}
 use Rattle.model.specs.Packets.{arrivals}
 use Rattle.model.specs.Refusals.{plainRefusal}
-use Rattle.model.specs.Policies.Plan.{fits, keepInTurn}
-use Rattle.model.specs.Record.{listsOf}
+use Rattle.model.specs.Policies.Plan.{fits, keepInTurn, planKept}
+use Rattle.model.specs.Rules.{Verdict}
+use Rattle.model.specs.Lent.{LentList, was, left, listsBefore}
+use Rattle.trace.specs.declared.Checked.{Checked}
+use Rattle.trace.specs.Checked.{verdictOf}
 use Rattle.steps.specs.Places.{packetsAt}
 
 -- one entry for each packet, a room in range, and slots from 1 that never go down
@@ -82,6 +85,14 @@ pub record Raised (place end : ℕ) (held held′ : List ℕ) : Type 0 where
   pub same : length held′ ≡ length held
   pub raised : (k : ℕ) → getD held′ k 0 ≡ getD held k 0 + within place end k
 
--- there is an entry for each packet, and the trace and the room are accepted, with record lists that are as long as the trace
-unfoldable pub accepts : List ℕ → List ℕ → ℕ → List ℕ → Bool
-accepts slots values room kept = eqb (length kept) (length slots) && eqb (plainRefusal slots values room (listsOf slots slots slots) .number) 0
+-- what becomes of `kept` where the test of the trace has this verdict: 1 for each packet that the plan keeps, 0 for every other; where the trace is refused,
+-- or `kept` has not an entry for each packet, it is as before
+unfoldable pub keptAfter : Verdict → List ℕ → List ℕ → ℕ → List ℕ → List ℕ
+keptAfter verdict slots values room kept =
+    cond (eqb (verdict .number) 0 && eqb (length kept) (length slots)) (planKept room (arrivals slots values)) kept
+
+-- the answer is the test of the plan's trace, and `kept` follows it
+abbrev pub TestsAndKeeps : LentList → LentList → LentList → LentList → LentList → LentList → ℕ → Checked → Type 0
+TestsAndKeeps slots values fates whens bys kept room answer =
+    let verdict = plainRefusal (was slots) (was values) room (listsBefore fates whens bys) in
+    (verdictOf answer ≡ verdict) × (left kept ≡ keptAfter verdict (was slots) (was values) room (was kept))

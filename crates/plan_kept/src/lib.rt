@@ -8,11 +8,10 @@ ghost use Rattle.model.specs.Packets.{arrivals};
 ghost use Rattle.model.specs.Refusals.{valueOk};
 ghost use Rattle.model.specs.Policies.Plan.{planKept};
 ghost use Rattle.model.specs.Record.{listsOf};
-ghost use Rattle.model.specs.Lent.{was, left};
+ghost use Rattle.model.specs.Lent.{was};
 ghost use Rattle.laws.specs.Accepted.{Accepted};
-ghost use Rattle.steps.specs.Guarded.{Guarded};
 ghost use Rattle.plan_order.specs.Order.{Inside};
-ghost use Rattle.plan_kept.specs.Keep.{Triable, Reach, Raisable, Raised, Keepable, HeldAs, TakenInTurn, accepts};
+ghost use Rattle.plan_kept.specs.Keep.{Triable, Reach, Raisable, Raised, Keepable, HeldAs, TakenInTurn, TestsAndKeeps};
 use model::Record;
 use plan_order::by_falling_value;
 use trace::Checked;
@@ -109,15 +108,24 @@ fn keep_all(slots: &[u32], values: &[u32], room: usize, kept: &mut [u8])
     keep_in_turn(slots, room, &order[..n], &mut held[..n], kept);
 }
 
-// Keeps the plan's packets. Where the trace or the room is not accepted, or `kept` has not an entry for each packet, it is as before.
-pub fn keep(slots: &[u32], values: &[u32], room: usize, kept: &mut [u8])
-    ensures { λ _. ⌜ Guarded (accepts (was slots) (was values) room (was kept)) (left kept ≡ planKept room (arrivals (was slots) (was values))) (left kept ≡ was kept) ⌝ }
+// The test of the plan's trace. Where it accepts and `kept` has an entry for each packet, `kept` tells then which packets the plan keeps; else it is as before.
+pub fn keep(
+    slots: &[u32],
+    values: &[u32],
+    room: usize,
+    fates: &[u32],
+    whens: &[u32],
+    bys: &[u32],
+    kept: &mut [u8],
+) -> Checked
+    ensures { λ r. ⌜ TestsAndKeeps slots values fates whens bys kept room r ⌝ }
 {
+    let tested = trace::check_plain(slots, values, room, fates, whens, bys);
     if kept.len() != slots.len() {
-        return;
+        return tested;
     }
-    let tested = trace::check_plain(slots, values, room, slots, slots, slots);
     if let Checked::Accepted = tested {
         keep_all(slots, values, room, kept);
     }
+    tested
 }

@@ -1,16 +1,16 @@
 -- A trace that a call's test accepts is one on which its policy can run, and the run's course is that of the call's definition.
-use Prim.Native.Nat.{ℕ, _≤_}
-use mathlib.Core.Path.{_≡_, refl, sym, ap, subst, _∙_}
+use Prim.Native.Nat.{ℕ, _≤_, min}
+use mathlib.Core.Path.{_≡_, sym, ap, subst, _∙_}
 use mathlib.Core.Bool.{_||_}
 use mathlib.Core.List.{List, []}
+use native.Mathlib.Omega.{arith}
 use lib.Dec.{eqb}
 use lib.ListN.{length}
-use borrow.Author.Tests.{eq-eqb}
 use Rattle.model.specs.declared.Beta.{Beta}
 use Rattle.model.specs.declared.Marking.{Marking}
 use Rattle.model.specs.Limits.{recordLimits}
 use Rattle.model.specs.Packets.{arrivals}
-use Rattle.model.specs.Record.{Lists, listsOf}
+use Rattle.model.specs.Record.{Lists}
 use Rattle.model.specs.Rules.{Verdict, clear}
 use Rattle.model.specs.Course.{byRule, runBy, first}
 use Rattle.model.specs.Policies.Greedy.{greedyRule}
@@ -25,12 +25,11 @@ use Rattle.laws.proofs.Lawful.{lawful-greedy, lawful-at-once, lawful-plan}
 use Rattle.laws.proofs.LawfulMF.{lawful-mf}
 use Rattle.laws.proofs.Accepted.{accepted}
 use Rattle.checks.proofs.Tests.{left-part}
-use Rattle.steps.specs.Guarded.{Guarded}
 use Rattle.steps.specs.Calls.{Ready}
 use Rattle.steps.proofs.Answering.{ready}
 use Rattle.mf_marks.specs.Mark.{beside}
-use Rattle.plan_kept.specs.Keep.{accepts}
-use Rattle.plan_kept.proofs.Planned.{all-accepted}
+use Rattle.plan_kept.specs.Keep.{keptAfter}
+use Rattle.plan_kept.proofs.Planned.{accepted-kept}
 use Rattle.runs.specs.declared.policy.Policy.the-variants.{Kept}
 use Rattle.runs.specs.Policy.{lifted, courseBy}
 use Rattle.runs.proofs.Lifted.{lifted-course, lifted-ready}
@@ -70,14 +69,9 @@ module _ (slots values : List ℕ) (room : ℕ) (lists : Lists) where
     unfolding plainRefusal
     tested = accepted clear valueOk slots values room lists (number-zero _ e)
 
-    pub few : length slots ≤ recordLimits .packets
-    few = tested .few
-
-    -- of the record's lists only the lengths count
-    alone : clear ≡ plainRefusal slots values room (listsOf slots slots slots)
-    unfolding plainRefusal
-    alone =
-        e ∙ simp (eq-eqb _ _ (tested .sized .fates), eq-eqb _ _ (tested .sized .whens), eq-eqb _ _ (tested .sized .bys), eq-eqb (length slots) (length slots) refl)
+    -- the plan's list has an entry for each packet
+    pub entry-for-each : (n : ℕ) → n ≡ min (length slots) (recordLimits .packets) → n ≡ length slots
+    entry-for-each n e = omega (arith, tested .few)
 
     plan-ready : Ready (byRule (keptRule (planKept room (arrivals slots values)))) [] slots values lists
     unfolding plainRefusal
@@ -87,9 +81,9 @@ module _ (slots values : List ℕ) (room : ℕ) (lists : Lists) where
 
     -- what `keep` made of a list as long as the trace, and is lent to the run
     module _ (zeros part kept marks : List ℕ) (same : length zeros ≡ length slots) (lent : kept ≡ part)
-        (K : Guarded (accepts slots values room zeros) (part ≡ planKept room (arrivals slots values)) (part ≡ zeros)) where
+        (K : part ≡ keptAfter (plainRefusal slots values room lists) slots values room zeros) where
       planned : kept ≡ planKept room (arrivals slots values)
-      planned = lent ∙ K .passed (all-accepted slots values room zeros same alone)
+      planned = lent ∙ K ∙ accepted-kept slots values room zeros _ e same
 
       pub plan-runs : Ready (lifted (keptRule kept)) (beside [] marks) slots values lists
       plan-runs =

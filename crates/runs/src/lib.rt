@@ -6,17 +6,15 @@ mod run;
 
 ghost use mathlib.Core.Path.{_≡_};
 ghost use mathlib.Core.List.{[]};
-ghost use Prim.Native.Nat.{_≤_};
+ghost use Prim.Native.Nat.{_≤_, min};
 ghost use lib.ListN.{length};
 ghost use Rattle.model.specs.Calls.{ran, greedyCall, pgCall, mfCall, planCall};
+ghost use Rattle.model.specs.Limits.{recordLimits};
 ghost use Rattle.model.specs.Lent.{was, listsBefore, listsAfter};
 ghost use Rattle.model.specs.Packets.{arrivals};
 ghost use Rattle.model.specs.Record.{listsOf};
 ghost use Rattle.model.specs.Course.{byRule, runBy};
-ghost use Rattle.model.specs.Rules.{clear};
-ghost use Rattle.model.specs.Refusals.{plainRefusal};
 ghost use Rattle.model.specs.Policies.MF.{mfPolicy, mfRun, unmarked};
-ghost use Rattle.model.specs.Policies.Plan.{planRun};
 ghost use Rattle.model.specs.Policies.Rule.{ruleOf};
 ghost use Rattle.laws.specs.AtOnce.{atOnce};
 ghost use Rattle.steps.specs.Calls.{Ready, outcome};
@@ -151,35 +149,18 @@ pub fn mf(
     }
 }
 
-// The plan's run: which packets it keeps, then the run in which these are held.
-fn finish_plan(
-    slots: &[u32],
-    values: &[u32],
-    room: usize,
-    fates: &mut [u32],
-    whens: &mut [u32],
-    bys: &mut [u32],
-) -> RunAnswer
-    requires { ⌜ clear ≡ plainRefusal (now slots) (now values) room (listsOf (now fates) (now whens) (now bys)) ⌝ }
-    ensures { λ r. ⌜ outcome r (listsAfter fates whens bys) ≡ ran (was slots) (was values) (planRun room (arrivals (was slots) (was values))) ⌝ }
+// How many entries the list of kept packets has: one for each packet, as far as a trace can be accepted.
+fn entries(slots: &[u32]) -> usize
+    ensures { λ r. ⌜ r ≡ min (length (was slots)) (recordLimits .packets) ⌝ }
 {
-    let mut kept = [0u8; Record::PACKETS];
     let n = slots.len();
-    keep(slots, values, room, &mut kept[..n]);
-    let mut marks = [0u32; 0];
-    finish(
-        slots,
-        values,
-        Policy::Kept,
-        &kept[..n],
-        &mut marks,
-        fates,
-        whens,
-        bys,
-    )
+    if n < Record::PACKETS {
+        return n;
+    }
+    Record::PACKETS
 }
 
-// The offline plan.
+// The offline plan: which packets it keeps, then the run in which these are held.
 pub fn plan(
     slots: &[u32],
     values: &[u32],
@@ -190,9 +171,23 @@ pub fn plan(
 ) -> RunAnswer
     ensures { λ r. ⌜ outcome r (listsAfter fates whens bys) ≡ planCall (was slots) (was values) room (listsBefore fates whens bys) ⌝ }
 {
-    let tested = trace::check_plain(slots, values, room, fates, whens, bys);
+    let mut kept = [0u8; Record::PACKETS];
+    let n = entries(slots);
+    let tested = keep(slots, values, room, fates, whens, bys, &mut kept[..n]);
     match tested {
         Checked::Refused(refusal) => RunAnswer::Refused(refusal),
-        Checked::Accepted => finish_plan(slots, values, room, fates, whens, bys),
+        Checked::Accepted => {
+            let mut marks = [0u32; 0];
+            finish(
+                slots,
+                values,
+                Policy::Kept,
+                &kept[..n],
+                &mut marks,
+                fates,
+                whens,
+                bys,
+            )
+        }
     }
 }

@@ -1,7 +1,6 @@
 -- The lent part of the marks holds a 0 for each packet.
-use mathlib.Core.Path.{_≡_, sym, ap, subst, _∙_}
-use Prim.Native.Nat.{ℕ}
-use mathlib.Core.List.{List, []}
+use mathlib.Core.Path.{sym, ap, subst, _∙_}
+use mathlib.Core.List.{[]}
 use lib.ListN.{length}
 use lib.Seq.{length-take-le}
 use Rattle.model.specs.Packets.{arrivals}
