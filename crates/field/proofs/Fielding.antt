@@ -2,7 +2,7 @@
 -- one byte goes from the rest to what is read.
 use Prim.Native.Nat.{ℕ, zero, suc, _+_, _-_, _*_, _≤_, _<_}
 use mathlib.Core.Path.{_≡_, refl, sym, ap, _∙_}
-use mathlib.Core.Bool.{Bool, true, false, cond, _&&_}
+use mathlib.Core.Bool.{Bool, true, false, cond, _&&_, and-true, and-false, and-eq-true-iff}
 use mathlib.Core.List.{List, [], _∷_}
 use native.Mathlib.Numerals.{add-one}
 use native.Mathlib.Omega.{arith}
@@ -31,17 +31,9 @@ module _ (name : List ℕ) (f : Field) (stage : Stage) (is : f .stage ≡ stage)
   unfolding kindAt
   kind-by = ap (λ (s : Stage). kindBy s name f) is
 
-pub and-false : (t : Bool) → t && false ≡ false
-and-false true = refl
-and-false false = refl
-
 too-many : (d n : ℕ) → 7 ≤ d → within 1 7 (d + suc n) ≡ false
 unfolding within
 too-many d n h = rw (lt-leb (d + suc n) 7 (omega arith), and-false) refl
-
-and-true : (t : Bool) → t && true ≡ t
-and-true true = refl
-and-true false = refl
 
 -- a power of ten
 unfoldable pub tenTo : ℕ → ℕ
@@ -123,19 +115,11 @@ from-by name f stage is rest = ap (λ (s : Stage). fieldFromBy s name f rest) is
 abbrev pub Lettered : List ℕ → Type 0
 Lettered name = (k : ℕ) → k < length name → 57 < getD name k 0
 
-pub and-left : (s t : Bool) → s && t ≡ true → s ≡ true
-and-left true t e = refl
-and-left false t e = e
-
-pub and-right : (s t : Bool) → s && t ≡ true → t ≡ true
-and-right true t e = e
-and-right false t e = let z : _≡_ {A = ℕ} 0 1 = cc in absurd (omega arith)
-
 pub letters-of : (name : List ℕ) → lettered name ≡ true → Lettered name
 unfolding lettered
 letters-of [] all k h = absurd (omega arith)
-letters-of (b ∷ name) all zero h = ltb-true 57 b (and-left (ltb 57 b) (lettered name) all)
-letters-of (b ∷ name) all (suc k) h = letters-of name (and-right (ltb 57 b) (lettered name) all) k (omega arith)
+letters-of (b ∷ name) all zero h = ltb-true 57 b (and-eq-true-iff (ltb 57 b) (lettered name) .0 all .0)
+letters-of (b ∷ name) all (suc k) h = letters-of name (and-eq-true-iff (ltb 57 b) (lettered name) .0 all .1) k (omega arith)
 
 module _ (name : List ℕ) (letters : Lettered name) where
   not-same : (b k : ℕ) (rest : List ℕ) → b ≤ 57 → same (b ∷ rest) (drop k name) ≡ false

@@ -4,7 +4,7 @@ use Prim.Native.Nat.{ℕ, zero, suc, _+_, _≤_, _<_, max}
 use native.Mathlib.Nat.{le-refl, le-of-suc-le-suc}
 use native.Mathlib.Omega.{arith}
 use mathlib.Core.Path.{_≡_, refl}
-use mathlib.Core.Bool.{Bool, true, _&&_, and-eq-true-iff}
+use mathlib.Core.Bool.{Bool, true, _&&_, and-eq-true-iff, _||_}
 use mathlib.Core.List.{List, [], _∷_}
 use lib.ListN.{length, getD}
 use lib.Dec.{leb, eqb}
@@ -134,6 +134,10 @@ accepted own ok slots values room lists z =
       comes = accepted-comes ok slots 1 0 (record { 0 = 0 }) slots values (omega arith)
           (λ k m e. let e′ : m ≡ k = omega arith in rw e′) (omega arith) (fourth .1);
     }
+
+-- MF's test of a value is the stricter one
+pub loOrHi-ok : (M : Marking) (v : ℕ) → loOrHi M v ≡ true → valueOk v ≡ true
+loOrHi-ok M v h = and-eq-true-iff (valueOk v) (eqb v (M .lo) || eqb v (M .hi)) .0 h .0
 
 module _ (slots values : List ℕ) (room : ℕ) (lists : Lists) where
   pub plain-accepted : plainRefusal slots values room lists .number ≡ 0 → Accepted valueOk slots values room lists

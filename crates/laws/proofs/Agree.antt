@@ -19,11 +19,12 @@ module _ (rule rule′ : List Packet → Packet → Decided) where
   ends-same (suc n) now (p ∷ queue) =
       ap (λ (step : Step (List Packet)). andThen (sentAt now p ∷ []) step) (ends-same n (following now) queue)
 
-  pub ends-short : (n : ℕ) (now : Slot) (queue : List Packet) → length (slotEnds (byRule rule′) n now queue .next) ≤ length queue
-  unfolding slotEnds
-  ends-short zero now queue = omega arith
-  ends-short (suc n) now [] = omega arith
-  ends-short (suc n) now (p ∷ queue) = omega (arith, ends-short n (following now) queue)
+-- sending makes no queue longer
+pub ends-short : (rule : List Packet → Packet → Decided) (n : ℕ) (now : Slot) (queue : List Packet) → length (slotEnds (byRule rule) n now queue .next) ≤ length queue
+unfolding slotEnds
+ends-short rule zero now queue = omega arith
+ends-short rule (suc n) now [] = omega arith
+ends-short rule (suc n) now (p ∷ queue) = omega (arith, ends-short rule n (following now) queue)
 
 module _ (room : ℕ) (rule rule′ : List Packet → Packet → Decided)
     (same : (queue : List Packet) (p : Packet) → length queue ≤ room → rule queue p ≡ rule′ queue p)
@@ -35,7 +36,7 @@ module _ (room : ℕ) (rule rule′ : List Packet → Packet → Decided)
   course-same now queue (a ∷ trace) h =
       let k = slotsUntil now (a .slot) in
       let left = slotEnds (byRule rule′) k now queue .next in
-      let short : length left ≤ room = omega (arith, ends-short rule rule′ k now queue) in
+      let short : length left ≤ room = omega (arith, ends-short rule′ k now queue) in
       rw (
         ends-same rule rule′ k now queue,
         same left (a .packet) short,

@@ -18,7 +18,7 @@ module _ (room : ℕ) (rule rule′ : List Packet → Packet → Decided)
     (roomy : (queue : List Packet) (p : Packet) → length queue ≤ room → length (rule′ queue p .queue) ≤ room) where
   module _ (now : Slot) (queue : List Packet) (a : Arrival) (h : length queue ≤ room) where
     left-short : length (slotEnds (byRule rule′) (slotsUntil now (a .slot)) now queue .next) ≤ room
-    left-short = omega (arith, ends-short rule rule′ (slotsUntil now (a .slot)) now queue)
+    left-short = omega (arith, ends-short rule′ (slotsUntil now (a .slot)) now queue)
 
     turn-same : turn (byRule rule) now queue a .next ≡ turn (byRule rule′) now queue a .next
     turn-same =

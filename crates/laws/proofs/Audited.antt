@@ -2,10 +2,9 @@
 -- obeys the rules has no first fault.
 use Prim.Native.Nat.{ℕ}
 use mathlib.Core.Path.{_≡_, refl}
-use mathlib.Core.Bool.{Bool, true, _||_, and-eq-true-iff}
+use mathlib.Core.Bool.{Bool, true}
 use mathlib.Core.List.{List, [], _∷_}
 use lib.ListN.{length}
-use lib.Dec.{eqb}
 use borrow.Author.Tests.{not-false}
 use Rattle.model.specs.declared.Beta.{Beta}
 use Rattle.model.specs.declared.Slot.{Slot}
@@ -23,7 +22,7 @@ use Rattle.laws.specs.Recorded.{Sized, recorded}
 use Rattle.laws.specs.Accepted.{Accepted}
 use Rattle.laws.proofs.FirstFault.{orElse-zero, verdictIf-zero, obeys-clearFrom}
 use Rattle.laws.proofs.Entered.{blank-sized, entered-sized}
-use Rattle.laws.proofs.Accepted.{plain-accepted, pg-accepted, mf-accepted}
+use Rattle.laws.proofs.Accepted.{plain-accepted, pg-accepted, mf-accepted, loOrHi-ok}
 use Rattle.laws.proofs.Lawful.{lawful-greedy, lawful-pg, lawful-plan}
 use Rattle.laws.proofs.LawfulMF.{lawful-mf}
 
@@ -43,7 +42,7 @@ packetRefusal-looser ok looser f before (a ∷ trace) z =
     zero-orElse _ _ (slot .0) (zero-orElse _ _ (rw passes) (packetRefusal-looser ok looser f (a .slot) trace (value .1)))
 
 -- a call that is not refused on some lists: the audit isn't refused on others of the right length
-audit-unrefused : (own : Verdict) (ok : ℕ → Bool) → ((v : ℕ) → ok v ≡ true → valueOk v ≡ true) → (slots values : List ℕ) (room : ℕ) (lists after : Lists) →
+pub audit-unrefused : (own : Verdict) (ok : ℕ → Bool) → ((v : ℕ) → ok v ≡ true → valueOk v ≡ true) → (slots values : List ℕ) (room : ℕ) (lists after : Lists) →
     Sized (length slots) lists → Sized (length slots) after →
     traceRefusal own ok slots values room lists .number ≡ 0 → plainRefusal slots values room after .number ≡ 0
 unfolding plainRefusal
@@ -92,7 +91,7 @@ module _ (slots values : List ℕ) (room : ℕ) (lists : Lists) where
       auditCall slots values room (mfCall slots values room M lists .lists) ≡ mfCall slots values room M lists .reply
   unfolding mfCall mfRefusal
   audit-mf M z =
-      audited (markingRefusal M) (loOrHi M) (λ v h. and-eq-true-iff (valueOk v) (eqb v (M .lo) || eqb v (M .hi)) .0 h .0) (mfRun room M slots values)
+      audited (markingRefusal M) (loOrHi M) (loOrHi-ok M) (mfRun room M slots values)
       (mf-accepted slots values room lists M z) z (lawful-mf slots values room lists M z .obeys)
 
   pub audit-plan : plainRefusal slots values room lists .number ≡ 0 →

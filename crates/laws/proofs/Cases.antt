@@ -13,6 +13,14 @@ eqb-cases m n G same other = go (eqb m n) refl
     go true e = same e (eqb-true m n e)
     go false e = other e (eqb-false m n e)
 
+-- one number is below another or not
+pub below : (m n : ℕ) (G : Type 0) → (m < n → G) → (n ≤ m → G) → G
+below m n G less not = go (ltb m n) refl
+  where
+    go : (t : Bool) → ltb m n ≡ t → G
+    go true e = less (ltb-true m n e)
+    go false e = not (ltb-false m n e)
+
 module _ {A : Type 0} (Q : A → Type 0) where
   -- one of two things by a test, with what the test says
   pub cond-cases : (t : Bool) (x y : A) → (t ≡ true → Q x) → (t ≡ false → Q y) → Q (cond t x y)

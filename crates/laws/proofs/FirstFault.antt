@@ -33,7 +33,8 @@ faultAt-clear : (B : Buffer) (older : List Row) (r : Row) → Faultless B older 
 unfolding faultAt orElse
 faultAt-clear B older r h = rw (h .fate, h .by, h .when, h .later, h .within-room)
 
-faultAt-zero : (B : Buffer) (older : List Row) (r : Row) → faultAt B older r .number ≡ 0 → Faultless B older r
+-- a row whose verdict is clear is faultless
+pub faultAt-zero : (B : Buffer) (older : List Row) (r : Row) → faultAt B older r .number ≡ 0 → Faultless B older r
 unfolding faultAt
 faultAt-zero B older r z =
     let a = orElse-zero _ _ z in

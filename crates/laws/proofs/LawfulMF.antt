@@ -24,7 +24,8 @@ use Rattle.laws.proofs.Rising.{Rising, rising-bounds, rising-take}
 use Rattle.laws.proofs.All.{All}
 use Rattle.laws.proofs.Moments.{FlushedBy}
 use Rattle.laws.proofs.Standing.{Marks}
-use Rattle.laws.proofs.Room.{zeros, mostQueue-roomy, roomy-mf}
+use Rattle.laws.proofs.Lists.{zeros}
+use Rattle.laws.proofs.Room.{mostQueue-roomy, roomy-mf}
 use Rattle.laws.proofs.Accepted.{mf-accepted}
 use Rattle.laws.proofs.Lawful.{Lawful, lawful}
 

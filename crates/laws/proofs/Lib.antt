@@ -2,6 +2,7 @@
 pub mod Fates
 pub mod FirstFault
 pub mod Cases
+pub mod Lists
 pub mod Times
 pub mod Roomy
 pub mod Agree

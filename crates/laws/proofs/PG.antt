@@ -19,7 +19,7 @@ use Rattle.model.specs.Policies.Greedy.{without, greedyRule}
 use Rattle.model.specs.Policies.PG.{preemptedAt, pgRule, pgRun}
 use Rattle.model.specs.Policies.Rule.{ruleOf}
 use Rattle.laws.specs.AtOnce.{pgAtOnce, atOnce}
-use Rattle.laws.proofs.Times.{length-without}
+use Rattle.laws.proofs.Lists.{length-without}
 use Rattle.laws.proofs.Cases.{below-cases}
 use Rattle.laws.proofs.Roomy.{loses-roomy, greedy-roomy}
 use Rattle.laws.proofs.Agree.{course-same}

@@ -1,11 +1,11 @@
 -- No policy holds more than room just after an arrival. Plain greedy takes a packet in only where there is room or another is lost, PG and MF likewise, and
 -- the plan keeps a packet only if all that it has kept fits.
-use Prim.Native.Nat.{ℕ, zero, suc, _+_, _-_, _≤_}
+use Prim.Native.Nat.{ℕ, _+_, _-_, _≤_}
 use native.Mathlib.Omega.{arith}
 use mathlib.Core.Path.{_≡_, refl}
 use mathlib.Core.Bool.{true, and-eq-true-iff}
 use mathlib.Core.List.{List, [], _∷_}
-use lib.ListN.{length, getD, replicate, length-append}
+use lib.ListN.{length, replicate, length-append}
 use lib.Dec.{leb}
 use borrow.Author.Tests.{leb-true, le-leb}
 use Rattle.model.specs.declared.Beta.{Beta}
@@ -24,6 +24,7 @@ use Rattle.laws.proofs.Roomy.{greedy-roomy}
 use Rattle.laws.proofs.PG.{pg-at-once, at-once-roomy}
 use Rattle.laws.proofs.Conserving.{Conserving, slotEnds-shorter, conserving-kept}
 use Rattle.laws.proofs.Cases.{eqb-cases, cond-cases}
+use Rattle.laws.proofs.Lists.{zeros}
 
 -- an arrival leaves no more than room held
 abbrev pub Roomy : {S : Type 0} → ℕ → Policy S → Type 0
@@ -70,11 +71,6 @@ kept-room room kept now queue counted (a ∷ trace) h fit =
     omega (arith, slotEnds-shorter (conserving-kept kept) k now queue, kept-adds kept before (a .packet))
     in
     omega (arith, leb-true after room (both .0), kept-room room kept (a .slot) (turn P now queue a .next) after trace here (both .1))
-
-pub zeros : (n place : ℕ) → _≡_ {A = ℕ} (getD (replicate n 0) place 0) 0
-zeros zero place = refl
-zeros (suc n) zero = refl
-zeros (suc n) (suc place) = zeros n place
 
 none-fits : (room n : ℕ) (now : Slot) (before : ℕ) (trace : List Arrival) → before ≡ 0 → fitsFrom room (replicate n 0) now before trace ≡ true
 unfolding fitsFrom

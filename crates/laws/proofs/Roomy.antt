@@ -7,7 +7,7 @@ use Rattle.model.specs.declared.Packet.{Packet}
 use Rattle.model.specs.Packets.{valuesOf}
 use Rattle.model.specs.Course.{Decided}
 use Rattle.model.specs.Policies.Greedy.{without, loserAt, greedyRule}
-use Rattle.laws.proofs.Times.{length-without}
+use Rattle.laws.proofs.Lists.{length-without}
 use Rattle.laws.proofs.Cases.{below-cases}
 
 module _ (room : ℕ) (queue : List Packet) (p : Packet) (h : length queue ≤ room) where

@@ -1,4 +1,4 @@
--- Two lists one after the other have a number as often as both together; a list with one place taken out has that one number once less, and is one shorter.
+-- Two lists one after the other have a number as often as both together; a list with one place taken out has that one number once less.
 use Prim.Native.Nat.{ℕ, zero, suc, _+_, _<_}
 use native.Mathlib.Omega.{arith}
 use mathlib.Core.Path.{_≡_, refl}
@@ -25,8 +25,3 @@ module _ {A : Type 0} (number : A → ℕ) where
   times-without n place nobody [] h = absurd (omega arith)
   times-without n zero nobody (x ∷ xs) h = omega arith
   times-without n (suc place) nobody (x ∷ xs) h = omega (arith, times-without n place nobody xs (omega arith))
-
-pub length-without {ℓ} : {A : Type ℓ} (place : ℕ) (xs : List A) → place < length xs → suc (length (take place xs ++ drop (suc place) xs)) ≡ length xs
-length-without place [] h = absurd (omega arith)
-length-without zero (x ∷ xs) h = refl
-length-without (suc place) (x ∷ xs) h = omega (arith, length-without place xs (omega arith))

@@ -1,12 +1,9 @@
 -- The end of a slot under MF: the marks, the flush and the sending make the policy's step. And the ends of slots, one after the other.
 use Prim.Native.Nat.{ℕ, _+_, _-_, _≤_, _<_}
-use mathlib.Core.Path.{_≡_, refl, sym, ap, _∙_}
-use mathlib.Core.Bool.{Bool, true, false}
-use mathlib.Core.List.{List, [], _∷_, _++_}
+use mathlib.Core.Path.{_≡_, sym, ap, _∙_}
+use mathlib.Core.List.{List, _++_}
 use native.Mathlib.Omega.{arith}
-use lib.ListN.{length, getD}
-use lib.Dec.{ltb}
-use borrow.Author.Tests.{ltb-true, ltb-false}
+use lib.ListN.{length}
 use Rattle.model.specs.declared.PacketNumber.{PacketNumber}
 use Rattle.model.specs.declared.Packet.{Packet}
 use Rattle.model.specs.declared.Slot.{Slot}
@@ -22,36 +19,10 @@ use Rattle.steps.specs.Window.{windowOf, Within, oldestOf}
 use Rattle.steps.specs.Step.{Stepped}
 use Rattle.mf_marks.specs.Mark.{beside}
 use Rattle.mf_flush.specs.Flush.{flushing, Finished, finishing, ending}
-use Rattle.steps.proofs.Windows.{window, window-cons, window-none}
+use Rattle.steps.proofs.Windows.{window, oldest-sent, oldest-none}
 use Rattle.steps.proofs.Arriving.{window-length}
 use Rattle.steps.proofs.Turning.{entered-both}
 use Rattle.mf_flush.proofs.Ending.{Ending, Ended, ending-past, ending-idle, ending-turn}
-
-module _ (head tail : ℕ) (numbers values : List ℕ) (W : Within (window head tail) numbers values) where
-  -- the oldest is sent: something is held, and the window has it first
-  pub oldest-sent : (p : Packet) → oldestOf (windowOf (window head tail) numbers values) ≡ Sent p
-      → (head < tail) × (windowOf (window head tail) numbers values ≡ p ∷ windowOf (window (head + 1) tail) numbers values)
-  oldest-sent p sent = go (ltb head tail) refl
-    where
-      go : (t : Bool) → ltb head tail ≡ t → (head < tail) × (windowOf (window head tail) numbers values ≡ p ∷ windowOf (window (head + 1) tail) numbers values)
-      go false f =
-          let none = window-none head tail numbers values W (ltb-false head tail f) in
-          let z : _≡_ {A = ℕ} 0 1 = cc in
-          absurd (omega arith)
-      go true f =
-          let some : head < tail = ltb-true head tail f in
-          let cons = window-cons head tail numbers values W some in
-          let first : Packet = record { number = record { 0 = getD numbers head 0 }; value = getD values head 0 } in
-          let same : Sent first ≡ Sent p = sym (ap oldestOf cons) ∙ sent in
-          let is : first ≡ p = cc in
-          (some, cons ∙ ap (λ (q : Packet). q ∷ windowOf (window (head + 1) tail) numbers values) is)
-
-  pub oldest-none : ((p : Packet) → oldestOf (windowOf (window head tail) numbers values) ≡ Sent p → ⊥) → windowOf (window head tail) numbers values ≡ []
-  oldest-none h = go (windowOf (window head tail) numbers values) refl
-    where
-      go : (queue : List Packet) → windowOf (window head tail) numbers values ≡ queue → queue ≡ []
-      go [] e = refl
-      go (p ∷ queue) e = absurd (h p (ap oldestOf e))
 
 module _ (slot : Slot) (head tail : ℕ) (numbers values : List ℕ) (W : Within (window head tail) numbers values) (before : Lists) where
   pub sent-oldest : (p : Packet) → oldestOf (windowOf (window head tail) numbers values) ≡ Sent p

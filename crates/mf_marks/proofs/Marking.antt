@@ -8,8 +8,8 @@ use native.Mathlib.Omega.{arith}
 use native.Mathlib.Nat.{add-zero}
 use lib.ListN.{length, take, drop, set, length-take}
 use lib.Seq.{take-take, take-all}
-use lib.Dec.{eqb, leb}
-use borrow.Author.Tests.{ne-eqb, eq-eqb, leb-true, leb-false}
+use lib.Dec.{eqb}
+use borrow.Author.Tests.{ne-eqb, eq-eqb}
 use Rattle.model.specs.declared.Packet.{Packet}
 use Rattle.model.specs.declared.PacketNumber.{PacketNumber}
 use Rattle.model.specs.declared.Slot.{Slot}
@@ -17,6 +17,7 @@ use Rattle.model.specs.Packets.{placeOf}
 use Rattle.model.specs.Port.{packetsOf}
 use Rattle.model.specs.declared.Marking.{Marking}
 use Rattle.model.specs.Policies.MF.{isMarked, markDown, markFrom}
+use Rattle.laws.proofs.Cases.{below}
 use Rattle.queue.proofs.Packets.{packets-take}
 use Rattle.steps.specs.declared.Window.{Window}
 use Rattle.steps.specs.Window.{part, windowOf, Within}
@@ -107,14 +108,6 @@ module _ (numbers values : List ℕ) (head n lo r : ℕ) (marking : PacketNumber
           rest = ap (λ (m : ℕ). markDown lo m marking (olderThan numbers values head j) marks) more ∙ before false e;
         }
 
--- one number is at most another or above it
-le-cases : (m n : ℕ) (G : Type 0) → (m ≤ n → G) → (n < m → G) → G
-le-cases m n G low high = go (leb m n) refl
-  where
-    go : (t : Bool) → leb m n ≡ t → G
-    go true e = low (leb-true m n e)
-    go false e = high (leb-false m n e)
-
 module _ (w : Window) (numbers values : List ℕ) (W : Within w numbers values) where
   -- the first packets of a window are a window
   pub window-take : (n most : ℕ) → n ≡ min most (w .tail - w .head) → windowOf (window (w .head) (w .head + n)) numbers values ≡ take most (windowOf w numbers values)
@@ -126,10 +119,10 @@ module _ (w : Window) (numbers values : List ℕ) (W : Within w numbers values) 
           let held = drop (w .head) list in
           let whole : w .head + n - w .head ≡ n = omega arith in
           ap (λ (k : ℕ). take k held) whole
-          ∙ le-cases most (w .tail - w .head) (take n held ≡ take most (take (w .tail - w .head) held))
+          ∙ below most (w .tail - w .head) (take n held ≡ take most (take (w .tail - w .head) held))
           (λ fewer.
           let k : n ≡ most = omega arith in
-          ap (λ (j : ℕ). take j held) k ∙ sym (take-take most (w .tail - w .head) held fewer))
+          ap (λ (j : ℕ). take j held) k ∙ sym (take-take most (w .tail - w .head) held (omega arith)))
           (λ all.
           let k : n ≡ w .tail - w .head = omega arith in
           ap (λ (j : ℕ). take j held) k ∙ sym (take-all most (take (w .tail - w .head) held) (rw length-take (omega arith))))

@@ -13,11 +13,11 @@ use lib.Dec.{leb}
 use borrow.Author.Tests.{le-leb, lt-leb}
 use Rattle.model.specs.Packets.{arrivals}
 use Rattle.model.specs.Policies.Plan.{fitsFrom, fits, keepInTurn}
-use Rattle.laws.proofs.Cases.{eqb-cases}
+use Rattle.laws.proofs.Cases.{eqb-cases, below}
+use Rattle.laws.proofs.Lists.{arrivals-length}
 use Rattle.steps.specs.Places.{packetsAt}
 use Rattle.plan_kept.specs.Keep.{Keepable, Fitting, TakenInTurn, HeldAs, Staying, Spanning, Reach, Raised, pause, within}
-use Rattle.plan_order.proofs.Cases.{below}
-use Rattle.steps.proofs.Places.{arrivals-at, arrivals-length}
+use Rattle.steps.proofs.Places.{arrivals-at}
 
 -- what the pass says of the packets from i on, with `held` held in slot `last`, it says of all
 pub record Passing (slots : List ℕ) (room : ℕ) (kept : List ℕ) (held last i : ℕ) : Type 0 where

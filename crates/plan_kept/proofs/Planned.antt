@@ -16,9 +16,9 @@ use Rattle.model.specs.Answers.{causeNumber}
 use Rattle.model.specs.Policies.Plan.{keepInTurn, planKept}
 use Rattle.laws.specs.Accepted.{Accepted}
 use Rattle.laws.proofs.Accepted.{accepted}
+use Rattle.laws.proofs.Lists.{arrivals-length}
 use Rattle.steps.specs.Guarded.{Guarded}
 use Rattle.steps.specs.Places.{packetsAt}
-use Rattle.steps.proofs.Places.{arrivals-length}
 use Rattle.trace.proofs.Laws.{cause-refuses}
 use Rattle.plan_order.specs.Order.{Inside, entryForEach, OrderedFrom}
 use Rattle.plan_order.proofs.Merging.{each-has-entry}

@@ -1,4 +1,3 @@
-pub mod Cases
 pub mod Ordering
 pub mod Merging
 pub mod One

@@ -17,13 +17,14 @@ use Rattle.model.specs.Refusals.{valueOk}
 use Rattle.model.specs.Port.{PortState, queueOf, holding, sound, arriveCall}
 use Rattle.model.specs.declared.Rule.{Rule}
 use Rattle.model.specs.declared.Rule.the-variants.{PG}
+use Rattle.laws.proofs.Lists.{length-without}
 use Rattle.queue.specs.declared.Choice.{Choice}
 use Rattle.queue.specs.declared.Choice.the-variants.{Hold, Reject, Lose}
 use Rattle.queue.specs.Choose.{betaPlace, overflowChoice, greedyChoice, choose}
 use Rattle.queue.proofs.Packets.{packets-values}
 use Rattle.port.specs.State.{Placed, Taking, stateOf}
 use Rattle.port.specs.declared.Taken.{Taken}
-use Rattle.port.proofs.Holding.{held-length, held-again, holding-placed, without-length}
+use Rattle.port.proofs.Holding.{held-length, held-again, holding-placed}
 use Rattle.port.proofs.Calls.{chosen, arrival-done}
 
 -- a choice that n held packets and this room allow
@@ -70,7 +71,7 @@ module _ (port : PortState) (values-whole : length (port .values) ≡ portLimits
 module _ (port : PortState) (P : Placed port) (fits : port .held ≤ portLimits .room) (place : ℕ) (inside : place < port .held) (taken : Taken)
     (T : Taking port place taken) where
   short : length (without place (queueOf port)) < portLimits .room
-  short = omega (arith, held-length port P, without-length place (queueOf port) (omega (arith, held-length port P)))
+  short = omega (arith, held-length port P, length-without place (queueOf port) (omega (arith, held-length port P)))
 
   pub rest-placed : Placed (stateOf (taken .port)) × (taken .port .held < portLimits .room)
   unfolding holding

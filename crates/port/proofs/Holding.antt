@@ -1,10 +1,10 @@
 -- A port whose places hold its queue: what a store behind the queue and what taking a packet out make of it, as `holding` says.
-use Prim.Native.Nat.{ℕ, zero, suc, _+_, _-_, _≤_, _<_}
+use Prim.Native.Nat.{ℕ, zero, _+_, _-_, _≤_, _<_}
 use mathlib.Core.Path.{_≡_, refl, sym, ap, ap₂, _∙_}
 use mathlib.Core.Bool.{true}
 use mathlib.Core.List.{List, [], _∷_, _++_, map}
 use native.Mathlib.Omega.{arith}
-use lib.ListN.{length, getD, take, drop, set, length-append, length-take, length-drop, length-map}
+use lib.ListN.{length, getD, take, drop, set, length-append, length-take, length-map}
 use lib.Seq.{take-at, drop-at, getD-take}
 use lib.Dec.{eqb}
 use Rattle.model.specs.declared.Packet.{Packet}
@@ -13,6 +13,7 @@ use Rattle.model.specs.Limits.{portLimits}
 use Rattle.model.specs.Packets.{nobody, valuesOf, numbersOf}
 use Rattle.model.specs.Policies.Greedy.{without}
 use Rattle.model.specs.Port.{PortState, packetsOf, queueOf, inPlaces, holding, all}
+use Rattle.laws.proofs.Lists.{length-without}
 use Rattle.queue.specs.Slide.{slid}
 use Rattle.queue.proofs.Packets.{packets-values, packets-length, packets-at, packets-numbers, packets-both, map-without, map-behind}
 use Rattle.port.specs.State.{Placed, TakenOut}
@@ -26,9 +27,6 @@ filled port last held values numbers =
 filled-same : (port : PortState) (last : PacketNumber) {held held′ : ℕ} {values values′ numbers numbers′ : List ℕ}
     → held ≡ held′ → values ≡ values′ → numbers ≡ numbers′ → filled port last held values numbers ≡ filled port last held′ values′ numbers′
 filled-same port last h v n = cc
-
-pub without-length : (place : ℕ) (queue : List Packet) → place < length queue → length (without place queue) ≡ length queue - 1
-without-length place queue inside = simp (length-append, length-take, length-drop) (omega arith)
 
 -- a queue in its places, and what is behind it
 module _ (queue : List Packet) (f : Packet → ℕ) where
@@ -153,6 +151,6 @@ module _ (port : PortState) (P : Placed port) where
         → filled port (port .last) (port .held - 1) values numbers ≡ holding port (port .last) (without place queue)
     unfolding holding
     holds-less values numbers v n of-values of-numbers =
-        filled-same port (port .last) (omega (arith, held-length, without-length place queue (omega (arith, held-length))))
+        filled-same port (port .last) (omega (arith, held-length, length-without place queue (omega (arith, held-length))))
         (one-less (λ (q : Packet). q .value) (port .values) values v values-places of-values)
         (one-less (λ (q : Packet). q .number .0) (port .numbers) numbers n numbers-places of-numbers)

@@ -4,7 +4,7 @@ use mathlib.Core.Path.{_≡_, refl, sym, ap, _∙_}
 use mathlib.Core.Bool.{Bool, true, false, cond}
 use mathlib.Core.List.{List, [], _∷_, _++_}
 use native.Mathlib.Omega.{arith}
-use native.Mathlib.Nat.{mul-le-mul-right}
+use native.Mathlib.Nat.{mul-le-mul-right, min-le-left, min-le-right}
 use lib.ListN.{length, getD, length-map}
 use lib.Dec.{leb}
 use borrow.Author.Tests.{lt-ltb, le-ltb, leb-true, leb-false}
@@ -89,14 +89,8 @@ module _ (beta : Beta) (arrival : ℕ) where
   lowest-stays [] h = omega arith
   lowest-stays (v ∷ values) h =
       preempted-cases _ beta arrival v values
-      (λ k e. absurd (omega (arith, mul-le-mul-right (beta .num) (least-head v (lowestOf values)))))
-      (λ k e. rw e (omega (arith, lowest-stays values (omega (arith, mul-le-mul-right (beta .num) (least-tail v (lowestOf values)))))))
-    where
-      least-head : (a b : ℕ) → min a b ≤ a
-      least-head a b = omega arith
-
-      least-tail : (a b : ℕ) → min a b ≤ b
-      least-tail a b = omega arith
+      (λ k e. absurd (omega (arith, mul-le-mul-right (beta .num) (min-le-left v (lowestOf values)))))
+      (λ k e. rw e (omega (arith, lowest-stays values (omega (arith, mul-le-mul-right (beta .num) (min-le-right v (lowestOf values)))))))
 
   -- the lowest value is preempted: some value is
   pub lowest-goes : (values : List ℕ) → ((k : ℕ) → getD values k 0 ≤ 4294967295) → 0 < length values

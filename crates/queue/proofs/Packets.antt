@@ -1,7 +1,7 @@
 -- The packets of a list of numbers and a list of values, taken apart and put together as the two lists are.
 use Prim.Native.Nat.{ℕ, zero, suc, _+_, _<_}
 use mathlib.Core.Path.{_≡_, refl, ap, ap₂, _∙_}
-use mathlib.Core.List.{List, [], _∷_, _++_, map}
+use mathlib.Core.List.{List, [], _∷_, _++_, map, map-append}
 use native.Mathlib.Omega.{arith}
 use lib.ListN.{length, getD, take, drop}
 use Rattle.model.specs.declared.Packet.{Packet}
@@ -64,10 +64,6 @@ packets-at (k ∷ numbers) (v ∷ values) (suc i) same inside = packets-at numbe
 
 -- a list of packets, read by one of their fields
 module _ (f : Packet → ℕ) where
-  map-append : (queue more : List Packet) → map f (queue ++ more) ≡ map f queue ++ map f more
-  map-append [] more = refl
-  map-append (p ∷ queue) more = ap (λ (l : List ℕ). f p ∷ l) (map-append queue more)
-
   map-take : (n : ℕ) (queue : List Packet) → map f (take n queue) ≡ take n (map f queue)
   map-take zero queue = refl
   map-take (suc n) [] = refl
@@ -79,10 +75,10 @@ module _ (f : Packet → ℕ) where
   map-drop (suc n) (p ∷ queue) = map-drop n queue
 
   pub map-without : (place : ℕ) (queue : List Packet) → map f (without place queue) ≡ take place (map f queue) ++ drop (suc place) (map f queue)
-  map-without place queue = map-append (take place queue) (drop (suc place) queue) ∙ ap₂ _++_ (map-take place queue) (map-drop (suc place) queue)
+  map-without place queue = map-append f (take place queue) (drop (suc place) queue) ∙ ap₂ _++_ (map-take place queue) (map-drop (suc place) queue)
 
   pub map-behind : (queue : List Packet) (p : Packet) → map f (queue ++ p ∷ []) ≡ map f queue ++ f p ∷ []
-  map-behind queue p = map-append queue (p ∷ [])
+  map-behind queue p = map-append f queue (p ∷ [])
 
 pub packets-numbers : (numbers values : List ℕ) → length numbers ≡ length values → numbersOf (packetsOf numbers values) ≡ numbers
 unfolding packetsOf

@@ -1,7 +1,7 @@
 -- The end of the input: nothing is left, and what the state says is what it comes to. And what holds of every state that a text leads to.
 use Prim.Native.Nat.{ℕ, suc, _+_, _-_, _*_, _^_, _≤_, _<_}
 use mathlib.Core.Path.{_≡_, refl, sym, ap, _∙_}
-use mathlib.Core.Bool.{Bool, true, false, cond}
+use mathlib.Core.Bool.{Bool, true, false, cond, false≢true}
 use mathlib.Core.List.{List, [], _∷_, _++_, append-nil}
 use native.Mathlib.Nat.{zero-add, add-zero, suc-add}
 use native.Mathlib.Omega.{arith}
@@ -27,9 +27,6 @@ use Rattle.rows.proofs.Tabling.{cellsTo, rowsTo, written-length}
 use Rattle.rows.proofs.Telling.{lines-some, onward, linesLeft, left, left-by, stopped, finalOf, finalFrom, saidIn, Sound, spoiled-law, says-spoiled, ended-cases, comma-cases}
 use Rattle.rows.proofs.Turning.{ended-law, after-law}
 
-pub false-true : {A : Type 0} → false ≡ true → A
-false-true e = let z : _≡_ {A = ℕ} 0 1 = cc in absurd (omega arith)
-
 -- a fresh field is not bad
 fresh-good : (s : Stage) → isFresh s ≡ true → isBad s ≡ false
 fresh-good Fresh e = refl
@@ -40,7 +37,7 @@ fresh-good Bad e = sym e
 
 start-good : (p : Parser) → atStart p ≡ true → isBad (p .field .stage) ≡ false
 unfolding atStart
-start-good p at = fresh-good (p .field .stage) (eqb-cases (p .column) 0 _ (λ t e. rw t at at) (λ t e. false-true (rw t at at)))
+start-good p at = fresh-good (p .field .stage) (eqb-cases (p .column) 0 _ (λ t e. rw t at at) (λ t e. absurd (false≢true (rw t at at))))
 
 -- at the start of a line that is not the first, nothing is left to read
 says-start : (header : List ℕ) (st : State) → st .parser .«after_cr» ≡ false → atStart (st .parser) ≡ true → (st .parser .line ≡ 1 → ⊥)

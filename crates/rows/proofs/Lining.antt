@@ -2,15 +2,15 @@
 -- goes from the rest to what is read. Every column has a name, the empty one in a row; a number in a row is what is no name.
 use Prim.Native.Nat.{ℕ, zero, suc, _≤_, _<_}
 use mathlib.Core.Path.{_≡_, refl, sym, ap, _∙_}
-use mathlib.Core.Bool.{Bool, true, false, cond, _&&_}
+use mathlib.Core.Bool.{Bool, true, false, cond, _&&_, and-eq-true-iff}
 use mathlib.Core.List.{List, [], _∷_, map}
 use native.Mathlib.Numerals.{add-one}
 use native.Mathlib.Omega.{arith}
 use lib.ListN.{length, getD, drop, replicate, length-replicate, getD-replicate, drop-of-length-le}
 use lib.Seq.{drop-cons}
-use lib.Dec.{eqb}
-use borrow.Author.Tests.{eq-eqb, ne-eqb}
-use Rattle.laws.proofs.Cases.{eqb-cases, cond-cases}
+use lib.Dec.{eqb, eqb·suc-suc}
+use borrow.Author.Tests.{ne-eqb}
+use Rattle.laws.proofs.Cases.{cond-cases}
 use Rattle.model.specs.Limits.{within}
 use Rattle.signs.specs.Signs.{comma}
 use Rattle.field.specs.declared.Kind.{Kind}
@@ -18,7 +18,7 @@ use Rattle.field.specs.declared.Kind.the-variants.{Neither, Name, Number}
 use Rattle.field.specs.declared.Field.{Field}
 use Rattle.field.specs.Fields.{fieldsOf, startsWith, same, heldIn, isNumber, valueFrom, lettered}
 use Rattle.field.specs.Reading.{freshField, badField, fieldAfter, kindAt}
-use Rattle.field.proofs.Fielding.{SoundField, kindAfter, fieldFrom, Lettered, letters-of, and-left, and-right, field-law, kind-law, low-field, bad-from, fresh-from}
+use Rattle.field.proofs.Fielding.{SoundField, kindAfter, fieldFrom, Lettered, letters-of, field-law, kind-law, low-field, bad-from, fresh-from}
 use Rattle.field.proofs.Whole.{kind-whole}
 use Rattle.rows.specs.declared.Parser.{Parser}
 use Rattle.rows.specs.Input.{heldInAll, sameAll, allNumbers, columnsOf, isHeader, isRow, rowOf}
@@ -134,7 +134,7 @@ pub all-letters : (names : List (List ℕ)) → allLettered names ≡ true → A
 unfolding allLettered
 all-letters [] all = tt
 all-letters (name ∷ names) all =
-    (letters-of name (and-left (lettered name) (allLettered names) all), all-letters names (and-right (lettered name) (allLettered names) all))
+    (letters-of name (and-eq-true-iff (lettered name) (allLettered names) .0 all .0), all-letters names (and-eq-true-iff (lettered name) (allLettered names) .0 all .1))
 
 no-letters : Lettered []
 no-letters k h = absurd (omega arith)
@@ -264,9 +264,6 @@ row-cases true false all n ns = refl
 row-cases false true all n ns = refl
 row-cases false false all n ns = refl
 
-suc-eqb : (m n : ℕ) → eqb (suc m) (suc n) ≡ eqb m n
-suc-eqb m n = eqb-cases m n _ (λ t e. eq-eqb (suc m) (suc n) (ap suc e) ∙ sym t) (λ t e. ne-eqb (suc m) (suc n) (λ s. e (omega arith)) ∙ sym t)
-
 -- a whole row
 got-row : (columns : ℕ) (fields : List (List ℕ))
     → fieldsGot false (replicate columns []) fields ≡ cond (eqb (length fields) columns && allNumbers (heldInAll fields)) (got (map (valueFrom 0) (heldInAll fields))) bad
@@ -276,7 +273,7 @@ got-row zero (field ∷ fields) = rw (ne-eqb (suc (length fields)) 0 (λ e. omeg
 got-row (suc columns) [] = rw (ne-eqb 0 (suc columns) (λ e. omega arith)) refl
 got-row (suc columns) (field ∷ fields) =
     row-kind (heldIn field) (fieldsGot false (replicate columns []) fields)
-    ∙ rw (got-row columns fields, suc-eqb (length fields) columns)
+    ∙ rw (got-row columns fields, eqb·suc-suc (length fields) columns)
     (row-cases (eqb (length fields) columns) (isNumber (heldIn field)) (allNumbers (heldInAll fields)) (valueFrom 0 (heldIn field)) (map (valueFrom 0) (heldInAll fields)))
 
 pub row-got : (header line : List ℕ) → lineGot header false line ≡ cond (isRow (columnsOf header) line) (got (rowOf line)) bad

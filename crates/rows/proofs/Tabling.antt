@@ -1,8 +1,8 @@
 -- The table by rows: a cell that is written stands behind those of its row, and changes no row before it; row by row is column by column.
 use Prim.Native.Nat.{ℕ, zero, suc, _+_, _*_, _/_, _≤_, _<_}
-use mathlib.Core.Path.{_≡_, refl, sym, ap, ap₂, _∙_}
+use mathlib.Core.Path.{_≡_, refl, sym, ap₂, _∙_}
 use mathlib.Core.Bool.{Bool, true}
-use mathlib.Core.List.{List, [], _∷_, _++_, map}
+use mathlib.Core.List.{List, [], _∷_, _++_, map-append}
 use native.Mathlib.Omega.{arith}
 use lib.ListN.{length, getD, drop, set, length-append, length-set, length-drop, List·getD-append}
 use lib.Seq.{getD-set-same, getD-set-other, getD-at, getD-drop, take-suc}
@@ -89,10 +89,6 @@ cell-at (suc columns) column row table inside =
     (λ t. let after = ltb-false column columns t in
     let is : column ≡ columns = omega arith in
     rw is (getD-at (cellsTo columns row table) (getD table (columns * 2048 + row) 0) [] 0 columns (cells-length columns row table)))
-
-map-append : {A B : Type 0} (f : A → B) (xs ys : List A) → map f (xs ++ ys) ≡ map f xs ++ map f ys
-map-append f [] ys = refl
-map-append f (x ∷ xs) ys = ap (λ l. f x ∷ l) (map-append f xs ys)
 
 -- row by row is column by column
 pub column-rows : (columns column count : ℕ) (table : List ℕ) → length table ≡ columns * recordLimits .packets → column < columns → count ≤ recordLimits .packets

@@ -1,10 +1,8 @@
 -- A trace that a call's test accepts is one on which its policy can run, and the run's course is that of the call's definition.
 use Prim.Native.Nat.{ℕ, _≤_, min}
 use mathlib.Core.Path.{_≡_, sym, ap, subst, _∙_}
-use mathlib.Core.Bool.{_||_}
 use mathlib.Core.List.{List, []}
 use native.Mathlib.Omega.{arith}
-use lib.Dec.{eqb}
 use lib.ListN.{length}
 use Rattle.model.specs.declared.Beta.{Beta}
 use Rattle.model.specs.declared.Marking.{Marking}
@@ -23,8 +21,7 @@ use Rattle.laws.proofs.PG.{pg-run}
 use Rattle.laws.proofs.WellFormed.{wellFormed-greedy, wellFormed-pg, wellFormed-mf, wellFormed-plan}
 use Rattle.laws.proofs.Lawful.{lawful-greedy, lawful-at-once, lawful-plan}
 use Rattle.laws.proofs.LawfulMF.{lawful-mf}
-use Rattle.laws.proofs.Accepted.{accepted}
-use Rattle.checks.proofs.Tests.{left-part}
+use Rattle.laws.proofs.Accepted.{accepted, loOrHi-ok}
 use Rattle.steps.specs.Calls.{Ready}
 use Rattle.steps.proofs.Answering.{ready}
 use Rattle.mf_marks.specs.Mark.{beside}
@@ -61,7 +58,7 @@ module _ (slots values : List ℕ) (room : ℕ) (lists : Lists) where
   mf-ready M e =
       let none = number-zero _ e in
       let T = accepted (markingRefusal M) (loOrHi M) slots values room lists none in
-      ready (mfPolicy room M slots) (unmarked (length slots)) (loOrHi M) (λ v h. left-part (valueOk v) (eqb v (M .lo) || eqb v (M .hi)) h) slots values room lists T
+      ready (mfPolicy room M slots) (unmarked (length slots)) (loOrHi M) (loOrHi-ok M) slots values room lists T
       (wellFormed-mf slots values (T .lengths) room M) (lawful-mf slots values room lists M none)
 
   module _ (e : clear ≡ plainRefusal slots values room lists) where

@@ -12,9 +12,10 @@ use Rattle.model.specs.Record.{Entry, Lists, entered}
 use Rattle.model.specs.Course.{Policy, slotEnds, course, first}
 use Rattle.laws.specs.MostQueue.{turn, mostQueue}
 use Rattle.laws.proofs.Standing.{course-turn}
+use Rattle.laws.proofs.Lists.{arrivals-length}
 use Rattle.steps.specs.Run.{Runnable, Ran}
 use Rattle.steps.specs.Places.{packetAt}
-use Rattle.steps.proofs.Places.{arrivals-at, arrivals-length}
+use Rattle.steps.proofs.Places.{arrivals-at}
 use Rattle.steps.proofs.Turning.{entered-both}
 
 abbrev pub at : ℕ → Slot

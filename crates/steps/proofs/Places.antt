@@ -27,12 +27,6 @@ arrivals-at slots values i same inside =
     arrivals-from-at 1 i slots values same inside
     ∙ ap₂ (λ (n k : ℕ). numbered (getD slots i 0) n (getD values i 0) ∷ drop k (arrivals slots values)) (omega arith) (sym (add-one i))
 
-pub arrivals-length : (n : ℕ) (slots values : List ℕ) → length values ≡ length slots → length (arrivalsFrom n slots values) ≡ length slots
-unfolding arrivalsFrom
-arrivals-length n [] values same = refl
-arrivals-length n (s ∷ slots) [] same = absurd (omega arith)
-arrivals-length n (s ∷ slots) (v ∷ values) same = omega (arith, arrivals-length (suc n) slots values (omega arith))
-
 -- the first entries of a list of noughts
 pub first-zeros : (n many : ℕ) → n ≤ many → take {A = ℕ} n (replicate many 0) ≡ replicate n 0
 first-zeros zero many h = refl

@@ -11,6 +11,7 @@ use Rattle.model.specs.declared.Packet.{Packet}
 use Rattle.model.specs.Packets.{valuesOf, numbersOf}
 use Rattle.model.specs.Port.{packetsOf}
 use Rattle.model.specs.Policies.Greedy.{without}
+use Rattle.laws.proofs.Lists.{length-without}
 use Rattle.queue.specs.Slide.{slid}
 use Rattle.queue.proofs.Moving.{slid-moved}
 use Rattle.queue.proofs.Packets.{map-without, map-behind, packets-numbers, packets-both}
@@ -126,9 +127,7 @@ module _ (w : Window) (numbers values : List ℕ) (W : Within w numbers values) 
   -- the packet at a place taken out
   module _ (place : ℕ) (inside : w .head + place < w .tail) where
     pub without-length : suc (length (without place queue)) ≡ length queue
-    without-length =
-        let n = window-length w numbers values W in
-        simp (length-append, length-take, length-drop) (omega arith)
+    without-length = length-without place queue (omega (arith, window-length w numbers values W))
 
     closed : (list : List ℕ) → w .tail ≤ length list
         → slid (w .head + place + 1) (w .tail) (w .head + place) list ≡ sets list (w .head) (take place (part w list) ++ drop (suc place) (part w list))

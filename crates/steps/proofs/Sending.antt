@@ -4,10 +4,6 @@ use mathlib.Core.Path.{_≡_, refl, sym, ap, _∙_}
 use mathlib.Core.List.{List, [], _∷_}
 use native.Mathlib.Numerals.{add-one}
 use native.Mathlib.Omega.{arith}
-use mathlib.Core.Bool.{Bool, true, false}
-use lib.ListN.{getD}
-use lib.Dec.{ltb}
-use borrow.Author.Tests.{ltb-true, ltb-false}
 use Rattle.model.specs.declared.Packet.{Packet}
 use Rattle.model.specs.declared.Slot.{Slot}
 use Rattle.model.specs.declared.SlotAnswer.the-variants.{Sent}
@@ -17,7 +13,7 @@ use Rattle.model.specs.Course.{Step, Decided, andThen, byRule, slotEnds}
 use Rattle.entry.specs.Entry.{entry}
 use Rattle.steps.specs.Window.{Within, windowOf, oldestOf}
 use Rattle.steps.specs.Step.{Stepped, anyRule, sending}
-use Rattle.steps.proofs.Windows.{window, window-cons, window-none}
+use Rattle.steps.proofs.Windows.{window, oldest-sent, oldest-none}
 
 -- where nothing is held nothing happens
 ends-idle : (rule : List Packet → Packet → Decided) (n : ℕ) (now : Slot) → slotEnds (byRule rule) n now [] ≡ record { entries = []; next = [] }
@@ -78,39 +74,23 @@ module _ (numbers values : List ℕ) (tail until head₀ slot₀ : ℕ) (before 
 
     pub left-idle : ((p : Packet) → oldestOf (windowOf (window head tail) numbers values) ≡ Sent p → ⊥)
         → Stepped (sends slot₀ until (windowOf (window head₀ tail) numbers values)) before (window head tail) numbers values now
-    left-idle h = go (windowOf (window head tail) numbers values) refl
-      where
-        go : (queue : List Packet) → windowOf (window head tail) numbers values ≡ queue
-            → Stepped (sends slot₀ until (windowOf (window head₀ tail) numbers values)) before (window head tail) numbers values now
-        go [] e = finished _ (ap (sends slot until) e ∙ sending-idle slot until) refl (sym e)
-        go (p ∷ queue) e = absurd (h p (ap oldestOf e))
+    left-idle h =
+        let none = oldest-none head tail numbers values (L .within) h in
+        finished _ (ap (sends slot until) none ∙ sending-idle slot until) refl (sym none)
 
     pub left-turn : (p : Packet) (after : Lists) → slot < until → oldestOf (windowOf (window head tail) numbers values) ≡ Sent p
         → after ≡ enter (entry (p .number) fates.Sent (record { 0 = slot }) (record { 0 = 0 })) now
         → (head < tail) × Leaves (head + 1) (slot + 1) after
     unfolding entered
-    left-turn p after h sent e = go (ltb head tail) refl
-      where
-        go : (t : Bool) → ltb head tail ≡ t → (head < tail) × Leaves (head + 1) (slot + 1) after
-        go false f =
-            let none = window-none head tail numbers values (L .within) (ltb-false _ _ f) in
-            let z : _≡_ {A = ℕ} 0 1 = cc in
-            absurd (omega arith)
-        go true f =
-            let some : head < tail = ltb-true _ _ f in
-            let cons = window-cons head tail numbers values (L .within) some in
-            let first : Packet = record { number = record { 0 = getD numbers head 0 }; value = getD values head 0 } in
-            let same : Sent first ≡ Sent p = sym (ap oldestOf cons) ∙ sent in
-            let is : first ≡ p = cc in
-            let turn = ap (sends slot until) cons ∙ sending-turn slot until first (windowOf (window (head + 1) tail) numbers values) h in
-            let rest = sends (slot + 1) until (windowOf (window (head + 1) tail) numbers values) in (
-              some,
-              record {
-                within = record { ordered = omega arith; inside = L .within .inside; same = L .within .same };
-                next = sym (ap (λ (s : Step (List Packet)). s .next) turn) ∙ L .next;
-                written =
-                    ap (entered (rest .entries)) (e ∙ ap (λ (q : Packet). enter (sentAt (record { 0 = slot }) q) now) (sym is))
-                    ∙ sym (ap (λ (s : Step (List Packet)). entered (s .entries) now) turn)
-                    ∙ L .written;
-              },
-            )
+    left-turn p after h sent e =
+        let first = oldest-sent head tail numbers values (L .within) p sent in
+        let some : head < tail = first .0 in
+        let turn = ap (sends slot until) (first .1) ∙ sending-turn slot until p (windowOf (window (head + 1) tail) numbers values) h in
+        let rest = sends (slot + 1) until (windowOf (window (head + 1) tail) numbers values) in (
+          some,
+          record {
+            within = record { ordered = omega arith; inside = L .within .inside; same = L .within .same };
+            next = sym (ap (λ (s : Step (List Packet)). s .next) turn) ∙ L .next;
+            written = ap (entered (rest .entries)) e ∙ sym (ap (λ (s : Step (List Packet)). entered (s .entries) now) turn) ∙ L .written;
+          },
+        )

@@ -10,6 +10,7 @@ use Rattle.model.specs.Packets.{Arrival, slotsUntil, following}
 use Rattle.model.specs.Record.{Entry, Lists, enter, entered}
 use Rattle.model.specs.Course.{Step, Decided, andThen, byRule, sendOldest, slotEnds}
 use Rattle.laws.specs.MostQueue.{turn}
+use Rattle.laws.proofs.Agree.{ends-short}
 use Rattle.steps.specs.declared.Window.{Window}
 use Rattle.steps.specs.Window.{windowOf, Within}
 use Rattle.steps.specs.Step.{Stepped, anyRule, sending, arriving, turning}
@@ -20,16 +21,9 @@ unfolding entered
 entered-both [] second lists = refl
 entered-both (e ∷ first) second lists = entered-both first second (enter e lists)
 
--- sending makes no queue longer
-ends-shorter : (rule : List Packet → Packet → Decided) (n : ℕ) (now : Slot) (queue : List Packet) → length (slotEnds (byRule rule) n now queue .next) ≤ length queue
-unfolding slotEnds
-ends-shorter rule zero now queue = omega arith
-ends-shorter rule (suc n) now [] = omega arith
-ends-shorter rule (suc n) now (p ∷ queue) = omega (arith, ends-shorter rule n (following now) queue)
-
 pub sending-shorter : (now until : Slot) (queue : List Packet) → length (sending now until queue .next) ≤ length queue
 unfolding sending
-sending-shorter now until queue = ends-shorter anyRule (slotsUntil now until) now queue
+sending-shorter now until queue = ends-short anyRule (slotsUntil now until) now queue
 
 pub sent-free : (now until : Slot) (w : Window) (numbers values : List ℕ) (before after : Lists) (r : Window) → Within w numbers values → w .tail - w .head < length values
     → Stepped (sending now until (windowOf w numbers values)) before r numbers values after → r .tail - r .head < length values
@@ -37,7 +31,7 @@ unfolding sending
 sent-free now until w numbers values before after r W short S =
     let was = window-length w numbers values W in
     let is = window-length r numbers values (S .within) in
-    let less = ends-shorter anyRule (slotsUntil now until) now (windowOf w numbers values) in
+    let less = ends-short anyRule (slotsUntil now until) now (windowOf w numbers values) in
     omega (arith, ap length (S .queue))
 
 pub turned : (rule : List Packet → Packet → Decided) (now : Slot) (a : Arrival) (queue : List Packet) (before between after : Lists)

@@ -1,17 +1,21 @@
 -- What a window holds with one entry more, and with its oldest taken: the part of each list first, then the packets of the two parts.
 use Prim.Native.Nat.{ℕ, zero, suc, _+_, _-_, _≤_, _<_}
-use mathlib.Core.Path.{_≡_, sym, ap, ap₂, _∙_}
+use mathlib.Core.Path.{_≡_, sym, ap, ap₂, _∙_, refl}
 use mathlib.Core.List.{List, [], _∷_, _++_}
+use mathlib.Core.Bool.{Bool, true, false}
 use native.Mathlib.Numerals.{add-one}
 use native.Mathlib.Omega.{arith}
 use native.Mathlib.Nat.{zero-add, suc-add}
 use lib.ListN.{length, getD, take, drop, set, length-take, length-drop, length-set}
 use lib.Seq.{take-nil, drop-set-add, take-suc-set, drop-cons}
+use lib.Dec.{ltb}
+use borrow.Author.Tests.{ltb-true, ltb-false}
 use Rattle.model.specs.declared.Packet.{Packet}
 use Rattle.model.specs.Port.{packetsOf}
+use Rattle.model.specs.declared.SlotAnswer.the-variants.{Sent}
 use Rattle.queue.proofs.Packets.{packets-append}
 use Rattle.steps.specs.declared.Window.{Window}
-use Rattle.steps.specs.Window.{part, windowOf, Within, Holds}
+use Rattle.steps.specs.Window.{part, windowOf, Within, Holds, oldestOf}
 
 abbrev pub window : ℕ → ℕ → Window
 window head tail = record { head = head; tail = tail }
@@ -71,3 +75,29 @@ module _ (head tail : ℕ) (numbers values : List ℕ) (W : Within (window head 
   window-none empty =
       let n : tail - head ≡ 0 = omega arith in
       ap (λ (k : ℕ). packetsOf (take k (drop head numbers)) (take k (drop head values))) n
+
+  -- the oldest is sent: something is held, and the window has it first
+  pub oldest-sent : (p : Packet) → oldestOf (windowOf (window head tail) numbers values) ≡ Sent p
+      → (head < tail) × (windowOf (window head tail) numbers values ≡ p ∷ windowOf (window (head + 1) tail) numbers values)
+  oldest-sent p sent = go (ltb head tail) refl
+    where
+      go : (t : Bool) → ltb head tail ≡ t → (head < tail) × (windowOf (window head tail) numbers values ≡ p ∷ windowOf (window (head + 1) tail) numbers values)
+      go false f =
+          let none = window-none (ltb-false head tail f) in
+          let z : _≡_ {A = ℕ} 0 1 = cc in
+          absurd (omega arith)
+      go true f =
+          let some : head < tail = ltb-true head tail f in
+          let cons = window-cons some in
+          let first : Packet = record { number = record { 0 = getD numbers head 0 }; value = getD values head 0 } in
+          let same : Sent first ≡ Sent p = sym (ap oldestOf cons) ∙ sent in
+          let is : first ≡ p = cc in
+          (some, cons ∙ ap (λ (q : Packet). q ∷ windowOf (window (head + 1) tail) numbers values) is)
+
+  -- none is sent: nothing is held
+  pub oldest-none : ((p : Packet) → oldestOf (windowOf (window head tail) numbers values) ≡ Sent p → ⊥) → windowOf (window head tail) numbers values ≡ []
+  oldest-none h = go (windowOf (window head tail) numbers values) refl
+    where
+      go : (queue : List Packet) → windowOf (window head tail) numbers values ≡ queue → queue ≡ []
+      go [] e = refl
+      go (p ∷ queue) e = absurd (h p (ap oldestOf e))

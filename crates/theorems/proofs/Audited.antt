@@ -11,12 +11,12 @@ use Rattle.model.specs.declared.Fault.{Fault}
 use Rattle.model.specs.declared.Fault.the-variants.{FateOutside, ByWrong, WhenWrong, NotLater, OverRoom}
 use Rattle.model.specs.Packets.{arrivalsFrom, arrivals}
 use Rattle.model.specs.Record.{Row, Lists, rowsOf, rows}
-use Rattle.model.specs.Rules.{Buffer, Verdict, Faultless, ObeysFrom, orElse, faultAt, firstFaultFrom, firstFault, bufferOf}
+use Rattle.model.specs.Rules.{Buffer, Verdict, ObeysFrom, orElse, faultAt, firstFaultFrom, firstFault, bufferOf}
 use Rattle.model.specs.Refusals.{plainRefusal}
 use Rattle.model.specs.Answers.{Reply, faultNumber}
 use Rattle.model.specs.Calls.{replyTo, replyWith, auditCall}
 use Rattle.laws.proofs.Cases.{eqb-cases}
-use Rattle.laws.proofs.FirstFault.{clear-obeysFrom, obeys-iff-clear}
+use Rattle.laws.proofs.FirstFault.{obeys-iff-clear, faultAt-zero}
 use Rattle.theorems.specs.Audited.{hasFault, AuditPasses, AuditNames}
 
 -- to show something of each fault
@@ -78,11 +78,6 @@ module _ (B : Buffer) (older : List Row) (r : Row) where
           (each-fault (Before OverRoom) (λ h. ha) (λ h. hb) (λ h. hc) (λ h. hd) (λ h. absurd (omega arith)))
       go false ha false hb false hc false hd false he = absurd (named (rw (ha, hb, hc, hd, he)))
 
-  -- a row whose verdict is clear is faultless
-  row-faultless : faultAt B older r .number ≡ 0 → Faultless B older r
-  unfolding firstFaultFrom orElse
-  row-faultless z = clear-obeysFrom B older (r ∷ []) (rw z refl) .0
-
 -- the first row with a fault, among rows that stand after `older`
 record Splits (B : Buffer) (older rows : List Row) : Type 0 where
   lower : List Row
@@ -104,7 +99,7 @@ splits B older (r ∷ rows) named =
       packet = rest .packet;
       higher = rest .higher;
       in-order = ap (λ (rs : List Row). r ∷ rs) (rest .in-order);
-      lower-obey = (row-faultless B older r z, rest .lower-obey);
+      lower-obey = (faultAt-zero B older r z, rest .lower-obey);
       verdict = rw t (rest .verdict);
     })
     (λ t q. record { lower = []; packet = r; higher = rows; in-order = refl; lower-obey = tt; verdict = rw t refl })

@@ -20,10 +20,10 @@ use Rattle.laws.proofs.Conserving.{conserving}
 use Rattle.laws.proofs.Cases.{eqb-cases}
 use Rattle.laws.proofs.Entered.{entryOf, rowsBy, rows-said}
 use Rattle.laws.proofs.WellFormed.{course-once}
+use Rattle.laws.proofs.Lists.{arrivals-length}
 use Rattle.theorems.specs.Demand3.{sentAtLeast, rowsRun}
 use Rattle.theorems.proofs.Each.{Each, each-map}
 use Rattle.theorems.proofs.Queue.{hi, hiIn}
-use Rattle.theorems.proofs.Trace.{length-arrivals}
 use Rattle.theorems.proofs.SentBy.{sentBy, timesSent, course-sent, each-sent}
 
 sent-entered : (n : ℕ) (entries : List Entry) → timesSent n entries ≤ timesEntered n entries
@@ -116,6 +116,6 @@ module _ (w : ℕ) where
         (omega (
           arith,
           hi-found queue trace (each-sent (λ p. hi w p ≤ found p trace) rule fair first [] trace tt (all-found trace)),
-          rows-found-all entries queue slots 0 1 trace a (λ i h. once .once i (omega (arith, length-arrivals 1 slots values l)))
+          rows-found-all entries queue slots 0 1 trace a (λ i h. once .once i (omega (arith, arrivals-length 1 slots values l)))
               (λ n. course-sent rule n first [] trace),
         ))

@@ -27,7 +27,7 @@ use Rattle.laws.proofs.Fifo.{greedy-fair, flush-parted}
 use Rattle.laws.proofs.Rising.{Rising, rising-bounds, rising-fair, rising-parted, rising-sent, rising-take}
 use Rattle.laws.proofs.Conserving.{slotEnds-induction}
 use Rattle.laws.proofs.Accepted.{mf-accepted}
-use Rattle.laws.proofs.Room.{zeros}
+use Rattle.laws.proofs.Lists.{zeros}
 use Rattle.theorems.specs.FlushLeaves.{AtEnds, AtEveryEnd, Leaves, FlushLeaves}
 use Rattle.theorems.proofs.Queue.{AtLeast}
 use Rattle.theorems.proofs.Lowest.{greedy-pushes-out}

@@ -2,25 +2,25 @@
 -- is in range, so plain greedy refuses nothing that MF accepts.
 use Prim.Native.Nat.{ℕ, zero, suc, _-_}
 use mathlib.Core.Path.{_≡_, refl, sym, ap, ap₂, _∙_}
-use mathlib.Core.Bool.{Bool, true, false, not, cond, _&&_, _||_, and-eq-true-iff}
+use mathlib.Core.Bool.{Bool, true, false, cond, _&&_}
 use mathlib.Core.List.{List, [], _∷_, _++_}
 use lib.ListN.{length, getD, replicate, take}
 use lib.Dec.{eqb}
-use borrow.Author.Tests.{not-false}
 use Rattle.model.specs.declared.Packet.{Packet}
 use Rattle.model.specs.declared.PacketNumber.{PacketNumber}
 use Rattle.model.specs.declared.Slot.{Slot}
 use Rattle.model.specs.Packets.{Arrival, arrivals, slotsUntil, following, placeOf, slotOf}
 use Rattle.model.specs.Record.{Entry, Lists}
-use Rattle.model.specs.Rules.{Verdict, clear, orElse, verdictIf}
-use Rattle.model.specs.Refusals.{valueOk, loOrHi, packetRefusalFrom, plainRefusal, mfRefusal}
+use Rattle.model.specs.Rules.{Verdict, clear}
+use Rattle.model.specs.Refusals.{loOrHi, plainRefusal, mfRefusal, markingRefusal}
 use Rattle.model.specs.Course.{Step, Policy, andThen, byRule, sendOldest, slotEnds, course, first}
 use Rattle.model.specs.Policies.Greedy.{greedyRule}
 use Rattle.model.specs.declared.Marking.{Marking}
 use Rattle.model.specs.Policies.MF.{Marked, markDown, markFrom, marksAfter, flushed, unflushed, headMark, mfPolicy}
 use Rattle.model.specs.Calls.{Outcome, ran, runUnless, greedyCall, mfCall}
-use Rattle.laws.proofs.Room.{zeros}
-use Rattle.laws.proofs.FirstFault.{orElse-zero, verdictIf-zero}
+use Rattle.laws.proofs.Lists.{zeros}
+use Rattle.laws.proofs.Accepted.{loOrHi-ok, mf-accepted}
+use Rattle.laws.proofs.Audited.{audit-unrefused}
 use Rattle.theorems.specs.PlainMF.{marksNone, PlainRun, PlainCall}
 
 down-none : (lo : ℕ) (marking : PacketNumber) (older : List Packet) (marks : List ℕ) → markDown lo 0 marking older marks ≡ marks
@@ -105,38 +105,12 @@ module _ (room lo hi : ℕ) (slots : List ℕ) where
 pub plain-run : PlainRun
 plain-run room lo hi slots values = course-plain room lo hi slots (replicate (length slots) 0) (zeros (length slots)) first [] (arrivals slots values)
 
--- both of two verdicts are clear, so is the first that is not clear
-orElse-clear : (v w : Verdict) → v .number ≡ 0 → w .number ≡ 0 → orElse v w .number ≡ 0
-unfolding orElse
-orElse-clear v w a b = rw a b
-
-verdictIf-clear : (t : Bool) (n place : ℕ) → t ≡ false → verdictIf t n place .number ≡ 0
-verdictIf-clear t n place e = rw e refl
-
--- a wider test of values is clear where a narrower one is
-packets-wider : (ok wider : ℕ → Bool) → ((v : ℕ) → ok v ≡ true → wider v ≡ true)
-    → (before : Slot) (trace : List Arrival) → packetRefusalFrom ok before trace .number ≡ 0 → packetRefusalFrom wider before trace .number ≡ 0
-unfolding packetRefusalFrom
-packets-wider ok wider h before [] z = refl
-packets-wider ok wider h before (a ∷ trace) z =
-    let one = orElse-zero _ _ z in
-    let two = orElse-zero _ _ (one .1) in
-    let taken : ok (a .packet .value) ≡ true = not-false _ (verdictIf-zero _ 5 _ (two .0)) in
-    orElse-clear _ _ (one .0)
-    (orElse-clear _ _ (verdictIf-clear _ 6 _ (ap not (h (a .packet .value) taken))) (packets-wider ok wider h (a .slot) trace (two .1)))
-
 pub plain-clear : (M : Marking) (slots values : List ℕ) (room : ℕ) (lists : Lists)
     → mfRefusal M slots values room lists .number ≡ 0 → plainRefusal slots values room lists .number ≡ 0
-unfolding mfRefusal plainRefusal
+unfolding mfRefusal
 plain-clear M slots values room lists z =
-    let one = orElse-zero _ _ z in
-    let two = orElse-zero _ _ (one .1) in
-    let three = orElse-zero _ _ (two .1) in
-    let four = orElse-zero _ _ (three .1) in
-    let wider = packets-wider (loOrHi M) valueOk (λ v t. and-eq-true-iff (valueOk v) (eqb v (M .lo) || eqb v (M .hi)) .0 t .0)
-    (record { 0 = 0 }) (arrivals slots values) (four .1)
-    in
-    orElse-clear _ _ (one .0) (orElse-clear _ _ (two .0) (orElse-clear _ _ (three .0) (orElse-clear clear _ refl wider)))
+    let sized = mf-accepted slots values room lists M z .sized in
+    audit-unrefused (markingRefusal M) (loOrHi M) (loOrHi-ok M) slots values room lists lists sized sized z
 
 -- where a verdict is clear the outcome is the run's
 pub run-clear : (v : Verdict) (lists : Lists) (outcome : Outcome) → v .number ≡ 0 → runUnless v lists outcome ≡ outcome

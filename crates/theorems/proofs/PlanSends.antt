@@ -1,7 +1,7 @@
 -- The packets that the offline plan had kept when it had taken the last packet of value at least w: they fit, they block every other such packet, and
 -- the plan sends them all.
-use Prim.Native.Nat.{ℕ, zero, suc, _+_, _-_, _≤_, _<_}
-use mathlib.Core.Path.{_≡_, refl, sym, ap, _∙_}
+use Prim.Native.Nat.{ℕ, suc, _+_, _-_, _≤_, _<_}
+use mathlib.Core.Path.{_≡_, sym, ap, _∙_}
 use mathlib.Core.Bool.{Bool, true, false, cond}
 use mathlib.Core.List.{List, [], _∷_, _++_}
 use native.Mathlib.Omega.{arith}
@@ -14,7 +14,7 @@ use Rattle.model.specs.Packets.{Arrival, arrivals, arrivalsFrom, slotsUntil}
 use Rattle.model.specs.Course.{Decided, held, rejected, first}
 use Rattle.model.specs.Policies.Plan.{byFallingValue, keepInTurn, planKept, keptRule}
 use Rattle.laws.proofs.Cases.{eqb-cases}
-use Rattle.theorems.proofs.Trace.{length-arrivals}
+use Rattle.laws.proofs.Lists.{zeros, arrivals-length}
 use Rattle.theorems.proofs.Each.{Each, each-map}
 use Rattle.theorems.proofs.Queue.{hi, hiIn, hi-append}
 use Rattle.theorems.proofs.SentBy.{sentBy}
@@ -42,7 +42,7 @@ pub all-placed : (slots values : List ℕ) → length values ≡ length slots
 all-placed slots values l =
     placed (length (arrivals slots values)) 0 values slots values
     (λ i j e. ap (λ (n : ℕ). getD values n 0) (omega arith))
-    (omega (arith, length-arrivals 1 slots values l))
+    (omega (arith, arrivals-length 1 slots values l))
 
 -- nothing fits
 fits-none : (room : ℕ) (set : ℕ → ℕ) (now : Slot) (n : ℕ) (trace : List Arrival) → ((i : ℕ) → set i ≡ 0) → n ≤ room → Fits room set now n trace
@@ -51,17 +51,12 @@ fits-none room set now n (a ∷ trace) z h =
     let less : after set now n a ≤ room = omega (arith, z (placeIn a)) in
     (less, fits-none room set (a .slot) (after set now n a) trace z less)
 
-none-kept : (n i : ℕ) → _≡_ {A = ℕ} (getD (replicate n 0) i 0) 0
-none-kept zero i = refl
-none-kept (suc n) zero = refl
-none-kept (suc n) (suc i) = none-kept n i
-
 nothing-kept : (room : ℕ) (trace : List Arrival) → Keeping room trace (replicate (length trace) 0)
 nothing-kept room trace =
     record {
       long = length-replicate (length trace) 0;
-      flags = λ i. omega (arith, none-kept (length trace) i);
-      fitting = fits-none room (setOf (replicate (length trace) 0)) first 0 trace (none-kept (length trace)) (omega arith);
+      flags = λ i. omega (arith, zeros (length trace) i);
+      fitting = fits-none room (setOf (replicate (length trace) 0)) first 0 trace (zeros (length trace)) (omega arith);
     }
 
 -- an arrival that is kept is held
@@ -135,7 +130,7 @@ module _ (w room : ℕ) (trace : List Arrival) (values : List ℕ) (places : Eac
   kept-high : (i : ℕ) → setOf (keptHigh w room trace) i ≤ hiAt w values i
   unfolding keptHigh
   kept-high =
-      in-turn-only room trace (hiAt w values) (replicate (length trace) 0) (high w trace) (λ i. omega (arith, none-kept (length trace) i))
+      in-turn-only room trace (hiAt w values) (replicate (length trace) 0) (high w trace) (λ i. omega (arith, zeros (length trace) i))
       (each-map (λ a. Placed (length trace) values a × (atLeast w (a .packet .value) ≡ true)) (λ a. 1 ≤ hiAt w values (placeIn a))
       (λ a h. rw (← h .0 .1, h .1) (omega arith)) (high w trace) (in-order (atLeast w)))
 

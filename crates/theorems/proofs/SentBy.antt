@@ -2,7 +2,7 @@
 -- packets of the run's entries with fate sent.
 use Prim.Native.Nat.{ℕ, zero, suc, _+_}
 use mathlib.Core.Path.{_≡_, refl, _∙_}
-use mathlib.Core.Bool.{Bool, true, false, cond, _&&_}
+use mathlib.Core.Bool.{cond, _&&_, and-true, and-false}
 use mathlib.Core.List.{List, [], _∷_, _++_}
 use native.Mathlib.Omega.{arith}
 use lib.ListN.{length, take, drop}
@@ -35,14 +35,6 @@ sent-append : (n : ℕ) (xs ys : List Entry) → timesSent n (xs ++ ys) ≡ time
 unfolding timesSent
 sent-append n [] ys = omega arith
 sent-append n (x ∷ xs) ys = omega (arith, sent-append n xs ys)
-
-and-true : (t : Bool) → t && true ≡ t
-and-true true = refl
-and-true false = refl
-
-and-false : (t : Bool) → t && false ≡ false
-and-false true = refl
-and-false false = refl
 
 -- an arrival enters nothing as sent
 none-sent : (n : ℕ) (a : Arrival) (d : Decision) → timesSent n (entriesOf a d) ≡ 0

@@ -14,6 +14,7 @@ use Rattle.model.specs.Record.{Row, Lists, rowsOf, rows}
 use Rattle.model.specs.Refusals.{valueOk, packetRefusalFrom, plainRefusal}
 use Rattle.laws.specs.Recorded.{Sized}
 use Rattle.laws.proofs.FirstFault.{orElse-zero, verdictIf-zero}
+use Rattle.laws.proofs.Lists.{arrivals-length}
 use Rattle.theorems.proofs.Lines.{ValuesTo}
 use Rattle.theorems.proofs.Each.{Each}
 
@@ -37,17 +38,11 @@ trace-rows (a ∷ trace) (f ∷ fates) (w ∷ whens) [] ef ew eb = absurd (omega
 trace-rows (a ∷ trace) (f ∷ fates) (w ∷ whens) (b ∷ bys) ef ew eb =
     ap (λ (l : List Arrival). a ∷ l) (trace-rows trace fates whens bys (omega arith) (omega arith) (omega arith))
 
-pub length-arrivals : (k : ℕ) (slots values : List ℕ) → length values ≡ length slots → length (arrivalsFrom k slots values) ≡ length slots
-unfolding arrivalsFrom
-length-arrivals k [] values e = refl
-length-arrivals k (s ∷ slots) [] e = absurd (omega arith)
-length-arrivals k (s ∷ slots) (v ∷ values) e = omega (arith, length-arrivals (suc k) slots values (omega arith))
-
 -- the rows of lists as long as the trace lie over it
 pub over-trace : (slots values : List ℕ) (lists : Lists) → length values ≡ length slots → Sized (length slots) lists
     → traceOf (rows (arrivals slots values) lists) ≡ arrivals slots values
 over-trace slots values lists l s =
-    let long = length-arrivals 1 slots values l in
+    let long = arrivals-length 1 slots values l in
     trace-rows (arrivals slots values) (lists .fates) (lists .whens) (lists .bys)
     (s .fates ∙ sym long) (s .whens ∙ sym long) (s .bys ∙ sym long)
 

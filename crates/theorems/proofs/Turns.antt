@@ -26,10 +26,11 @@ use Rattle.port.proofs.Holding.{queue-held}
 use Rattle.port.proofs.Calls.{arrival-value, arrival-spent, slot-done}
 use Rattle.theorems.proofs.SoundPort.{slot-keeps, arrival-keeps, arrival-taken, never-unsound}
 use Rattle.laws.specs.Times.{times, ofPacket, timesHeld}
-use Rattle.laws.proofs.Times.{times-append, times-without, length-without}
+use Rattle.laws.proofs.Times.{times-append, times-without}
 use Rattle.laws.proofs.Fifo.{Fair, holds, rejects, loses, pg-fair}
 use Rattle.laws.proofs.Room.{roomy-pg}
 use Rattle.laws.proofs.PG.{pg-at-once}
+use Rattle.laws.proofs.Lists.{length-without}
 use Rattle.theorems.specs.Ledger.{Event, arrival, endOfSlot, callOn, givenBy, goneBy, timesIn}
 
 holding-held : (port : PortState) (last : PacketNumber) (queue : List Packet) → holding port last queue .held ≡ length queue

@@ -4,9 +4,10 @@ use mathlib.Core.Path.{_≡_, refl, sym, _∙_}
 use mathlib.Core.Bool.{Bool, true, false, not, _||_}
 use mathlib.Core.List.{List, [], _∷_}
 use lib.ListN.{length, getD}
-use lib.Dec.{ltb, eqb}
+use lib.Dec.{ltb}
 use native.Mathlib.Omega.{arith}
-use borrow.Author.Tests.{le-leb, ltb-false, eqb-true, eqb-false}
+use borrow.Author.Tests.{le-leb, ltb-false}
+use borrow.Author.Count.{below-more}
 use Rattle.model.specs.Limits.{recordLimits, within}
 use Rattle.model.specs.Packets.{arrivalsFrom}
 use Rattle.model.specs.Port.{all}
@@ -46,14 +47,6 @@ plain-clear slots values is l s v = rw is (walk-clear valueOk 0 1 slots values l
 pub no-claim : {P : Type 0} → false ≡ true → P
 no-claim e = absurd (let z : _≡_ {A = ℕ} 0 1 = cc in omega arith)
 
--- one more
-more : (P : ℕ → Type 0) (i : ℕ) → ((k : ℕ) → k < i → P k) → P i → (k : ℕ) → k < i + 1 → P k
-more P i before here k h = go (eqb k i) refl
-  where
-    go : (t : Bool) → eqb k i ≡ t → P k
-    go true e = rw (eqb-true k i e) here
-    go false e = before k (omega (arith, eqb-false k i e))
-
 pub slots-more : (slots : List ℕ) (i last : ℕ) {bad bad′ : Bool} → last ≡ getD (0 ∷ slots) i 0 → (bad ≡ false → SlotsFit slots i)
     → bad′ ≡ (bad || ltb (getD slots i 0) 1 || ltb (recordLimits .slot) (getD slots i 0) || ltb (getD slots i 0) last)
     → bad′ ≡ false → SlotsFit slots (i + 1)
@@ -62,7 +55,7 @@ slots-more slots i last {bad} e before is none =
     let all = sym is ∙ none in
     let three = left-none (bad || ltb (getD slots i 0) 1 || ltb (recordLimits .slot) (getD slots i 0)) _ all in
     let two = left-none (bad || ltb (getD slots i 0) 1) _ three in
-    more (λ (k : ℕ). slotOk (record { 0 = getD (0 ∷ slots) k 0 }) (record { 0 = getD slots k 0 }) ≡ true) i (before (left-none bad _ two))
+    below-more (λ (k : ℕ). slotOk (record { 0 = getD (0 ∷ slots) k 0 }) (record { 0 = getD slots k 0 }) ≡ true) i (before (left-none bad _ two))
     (rw (
       le-leb 1 (getD slots i 0) (ltb-false _ _ (right-none bad _ two)),
       le-leb (getD slots i 0) (recordLimits .slot) (ltb-false _ _ (right-none (bad || ltb (getD slots i 0) 1) _ three)),
