@@ -131,13 +131,19 @@ fn row_at(
     let Named::Fate(fate) = fate_of(fates[i]) else {
         return Read::Outside;
     };
+    let place = i as u32;
+    let number = place + 1;
+    let slot = slots[i];
+    let value = values[i];
+    let when = whens[i];
+    let by = bys[i];
     Read::Row(FatedRow {
-        number: PacketNumber(i as u32 + 1),
-        slot: Slot(slots[i]),
-        value: values[i],
+        number: PacketNumber(number),
+        slot: Slot(slot),
+        value,
         fate,
-        when: Slot(whens[i]),
-        by: PacketNumber(bys[i]),
+        when: Slot(when),
+        by: PacketNumber(by),
     })
 }
 

@@ -84,11 +84,16 @@ impl Field {
         if FULL <= self.number {
             return Field::bad();
         }
+        let digits = self.digits + 1;
+        let tens = self.number * 10;
+        let digit = byte - ZERO;
+        let units = digit as u32;
+        let number = tens + units;
         Field {
             stage,
             letters: self.letters,
-            digits: self.digits + 1,
-            number: self.number * 10 + (byte - ZERO) as u32,
+            digits,
+            number,
         }
     }
 
@@ -104,9 +109,10 @@ impl Field {
             return Field::bad();
         }
         if name[letters] == byte {
+            let more = letters + 1;
             Field {
                 stage,
-                letters: letters + 1,
+                letters: more,
                 digits: self.digits,
                 number: self.number,
             }

@@ -42,10 +42,8 @@ fn send(
         slot,
         PacketNumber(0),
     );
-    Window {
-        head: head + 1,
-        tail,
-    }
+    let next = head + 1;
+    Window { head: next, tail }
 }
 
 // The end of a slot: the slot's hi packets mark, the head's mark flushes, and the head is sent.

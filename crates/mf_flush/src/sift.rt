@@ -31,13 +31,13 @@ pub fn head_mark(numbers: &[u32], values: &[u32], marks: &[u32], w: Window) -> P
 {
     let head = w.head;
     if head < w.tail {
-        mark_of(
-            marks,
-            Packet {
-                number: PacketNumber(numbers[head]),
-                value: values[head],
-            },
-        )
+        let number = numbers[head];
+        let value = values[head];
+        let oldest = Packet {
+            number: PacketNumber(number),
+            value,
+        };
+        mark_of(marks, oldest)
     } else {
         PacketNumber(0)
     }
@@ -63,9 +63,11 @@ fn sift(
     let mut from = head;
     let mut to = head;
     while from < tail {
+        let number = numbers[from];
+        let value = values[from];
         let p = Packet {
-            number: PacketNumber(numbers[from]),
-            value: values[from],
+            number: PacketNumber(number),
+            value,
         };
         from += 1;
         let mark = mark_of(marks, p);

@@ -57,9 +57,11 @@ fn mark_down(
     while 0 < i && 0 < left {
         let k = head + (i - 1);
         i -= 1;
+        let number = numbers[k];
+        let value = values[k];
         let p = Packet {
-            number: PacketNumber(numbers[k]),
-            value: values[k],
+            number: PacketNumber(number),
+            value,
         };
         if takes_mark(marks, p, lo) {
             put(marks, place_of(p.number), by.0);

@@ -198,7 +198,8 @@ impl Port {
         ensures { λ r. ⌜ arrivalOf r ≡ arriveCall (stateOf self) value ⌝ }
     {
         let last = self.last;
-        let number = PacketNumber(last.0 + 1);
+        let given = last.0 + 1;
+        let number = PacketNumber(given);
         let packet = Packet { number, value };
         let beta = self.beta;
         let held = self.held;

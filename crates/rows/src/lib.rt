@@ -202,9 +202,10 @@ impl Parser {
         ensures { λ r. ⌜ state r (now (table .exit)) ≡ columnEnded (now (header .entry)) (state self (now (table .entry))) ⌝ }
     {
         if self.column < self.last {
+            let column = self.column + 1;
             let next = Parser {
                 last: self.last,
-                column: self.column + 1,
+                column,
                 field: Field::fresh(),
                 after_cr: false,
                 line: self.line,

@@ -23,9 +23,10 @@ fn freed(numbers: &mut [u32], values: &mut [u32], w: Window) -> Window
     }
     slide(numbers, head, tail, 0);
     slide(values, head, tail, 0);
+    let held = tail - head;
     Window {
         head: 0,
-        tail: tail - head,
+        tail: held,
     }
 }
 
@@ -40,10 +41,8 @@ pub fn hold(numbers: &mut [u32], values: &mut [u32], w: Window, p: Packet) -> Wi
     let tail = o.tail;
     numbers[tail] = p.number.0;
     values[tail] = p.value;
-    Window {
-        head,
-        tail: tail + 1,
-    }
+    let end = tail + 1;
+    Window { head, tail: end }
 }
 
 // Takes the packet at a place out of the window.
@@ -56,9 +55,10 @@ pub fn lose(numbers: &mut [u32], values: &mut [u32], w: Window, place: usize) ->
     let tail = w.tail;
     slide(numbers, at + 1, tail, at);
     slide(values, at + 1, tail, at);
+    let end = tail - 1;
     Window {
         head: w.head,
-        tail: tail - 1,
+        tail: end,
     }
 }
 
@@ -68,9 +68,11 @@ pub fn oldest(numbers: &[u32], values: &[u32], head: usize, tail: usize) -> Slot
     ensures { λ r. ⌜ r ≡ oldestOf (windowOf (record { head = head; tail = tail }) (now (numbers .entry)) (now (values .entry))) ⌝ }
 {
     if head < tail {
+        let number = numbers[head];
+        let value = values[head];
         SlotAnswer::Sent(Packet {
-            number: PacketNumber(numbers[head]),
-            value: values[head],
+            number: PacketNumber(number),
+            value,
         })
     } else {
         SlotAnswer::Idle

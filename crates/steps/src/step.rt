@@ -77,7 +77,8 @@ fn replace(
     ensures { λ r. ⌜ Moves w r numbers values fates whens bys (decidingBy (applied (Choice.Lose place kind)) (arrival slot p)) ⌝ }
 {
     let at = w.head + place;
-    let lost = PacketNumber(numbers[at]);
+    let number = numbers[at];
+    let lost = PacketNumber(number);
     enter(fates, whens, bys, lost, kind.fate(), slot, p.number);
     let rest = lose(numbers, values, w, place);
     hold(numbers, values, rest, p)

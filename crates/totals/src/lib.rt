@@ -93,11 +93,9 @@ pub fn totals(values: &[u32], fates: &[u32], most: u32) -> Totals
     let pushed_out = tally_of(values, fates, Fate::PushedOut);
     let preempted = tally_of(values, fates, Fate::Preempted);
     let flushed = tally_of(values, fates, Fate::Flushed);
+    let count = fates.len() as u32;
     Totals {
-        arrived: Tally {
-            count: fates.len() as u32,
-            value: all,
-        },
+        arrived: Tally { count, value: all },
         sent,
         rejected,
         pushed_out,

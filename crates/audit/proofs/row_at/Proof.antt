@@ -36,35 +36,35 @@ returns c =
     let out : within 1 5 n ≡ false = subst (λ (x : Named). Names n x) (c .enum-told .given .1) (called .fate-of .ensures) in
     rw out
 
-cast-t11 : tie.Need-cast-t11
-cast-t11 c = search needs
+cast-place : tie.Need-cast-place
+cast-place c = search needs
 
-add-t12 : tie.Need-add-t12
-add-t12 c = search needs
+add-number : tie.Need-add-number
+add-number c = search needs
 
-mul-t9 : tie.Need-mul-t9
-mul-t9 c = search needs
+mul-slot : tie.Need-mul-slot
+mul-slot c = search needs
 
-shared-slice-read-t15 : tie.Need-shared-slice-read-t15
-shared-slice-read-t15 c = search needs
+shared-slice-read-slot : tie.Need-shared-slice-read-slot
+shared-slice-read-slot c = search needs
 
-mul-t17 : tie.Need-mul-t17
-mul-t17 c = search needs
+mul-value : tie.Need-mul-value
+mul-value c = search needs
 
-shared-slice-read-t19 : tie.Need-shared-slice-read-t19
-shared-slice-read-t19 c = search needs
+shared-slice-read-value : tie.Need-shared-slice-read-value
+shared-slice-read-value c = search needs
 
-mul-t20 : tie.Need-mul-t20
-mul-t20 c = search needs
+mul-when : tie.Need-mul-when
+mul-when c = search needs
 
-shared-slice-read-t22 : tie.Need-shared-slice-read-t22
-shared-slice-read-t22 c = search needs
+shared-slice-read-when : tie.Need-shared-slice-read-when
+shared-slice-read-when c = search needs
 
-mul-t24 : tie.Need-mul-t24
-mul-t24 c = search needs
+mul-by : tie.Need-mul-by
+mul-by c = search needs
 
-shared-slice-read-t26 : tie.Need-shared-slice-read-t26
-shared-slice-read-t26 c = search needs
+shared-slice-read-by : tie.Need-shared-slice-read-by
+shared-slice-read-by c = search needs
 
 returns-2 : tie.Need-returns-2
 returns-2 c =
@@ -86,14 +86,14 @@ row-at-spec =
     enum-known-fate
     enum-told
     returns
-    cast-t11
-    add-t12
-    mul-t9
-    shared-slice-read-t15
-    mul-t17
-    shared-slice-read-t19
-    mul-t20
-    shared-slice-read-t22
-    mul-t24
-    shared-slice-read-t26
+    cast-place
+    add-number
+    mul-slot
+    shared-slice-read-slot
+    mul-value
+    shared-slice-read-value
+    mul-when
+    shared-slice-read-when
+    mul-by
+    shared-slice-read-by
     returns-2)

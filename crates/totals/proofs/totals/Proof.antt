@@ -77,8 +77,8 @@ tally-of-requires-5 c κs =
     let fit = all-fit (a .values .now) (c .before .before .before .before .before .before .values-ok .ensures) (not-false (c .before .before .before .before .before .before .values-ok .result) (c .before .before .before .before .before .if3 .left)) in
     record { same = c .before .before .before .before .before .before .before .before .if1 .left; few = omega (arith, c .before .before .before .before .before .before .before .if2 .left); values-fit = fit }
 
-cast-t15 : tie.Need-cast-t15
-cast-t15 c =
+cast-count : tie.Need-cast-count
+cast-count c =
     search needs
 
 returns-4 : tie.Need-returns-4
@@ -106,4 +106,4 @@ returns-4 c =
     }
 
 pub totals-spec : {M : Type 1} → statement M
-totals-spec = tie.close (tie.spec none-requires returns none-requires-2 returns-2 values-ok-requires none-requires-3 returns-3 sum-of-requires tally-of-requires tally-of-requires-2 tally-of-requires-3 tally-of-requires-4 tally-of-requires-5 cast-t15 returns-4)
+totals-spec = tie.close (tie.spec none-requires returns none-requires-2 returns-2 values-ok-requires none-requires-3 returns-3 sum-of-requires tally-of-requires tally-of-requires-2 tally-of-requires-3 tally-of-requires-4 tally-of-requires-5 cast-count returns-4)

@@ -27,20 +27,20 @@ returns-3 : tie.Need-returns-3
 unfolding digitTaken
 returns-3 c = rw (le-ltb _ _ (c .before .before .before .before .before .if1 .left), lt-leb _ _ (c .before .before .before .if2 .left), le-leb _ _ (c .before .if3 .taken)) (c .bad3 .ensures)
 
-add-t5 : tie.Need-add-t5
-add-t5 c = search needs
+add-digits : tie.Need-add-digits
+add-digits c = search needs
 
-mul-t6 : tie.Need-mul-t6
-mul-t6 c = search needs
+mul-tens : tie.Need-mul-tens
+mul-tens c = search needs
 
-sub-t7 : tie.Need-sub-t7
-sub-t7 c = search needs
+sub-digit : tie.Need-sub-digit
+sub-digit c = search needs
 
-cast-t8 : tie.Need-cast-t8
-cast-t8 c = search needs
+cast-units : tie.Need-cast-units
+cast-units c = search needs
 
-add-t9 : tie.Need-add-t9
-add-t9 c = search needs
+add-number : tie.Need-add-number
+add-number c = search needs
 
 returns-4 : tie.Need-returns-4
 unfolding digitTaken
@@ -56,9 +56,9 @@ digit-spec =
     returns-2
     bad-requires-3
     returns-3
-    add-t5
-    mul-t6
-    sub-t7
-    cast-t8
-    add-t9
+    add-digits
+    mul-tens
+    sub-digit
+    cast-units
+    add-number
     returns-4)

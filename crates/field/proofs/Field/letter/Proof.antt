@@ -23,8 +23,8 @@ returns-2 c = rw (le-ltb _ _ (c .before .before .if1 .left), le-leb _ _ (c .befo
 shared-slice-read-if3 : tie.Need-shared-slice-read-if3
 shared-slice-read-if3 c = search needs
 
-add-t11 : tie.Need-add-t11
-add-t11 c = search needs
+add-more : tie.Need-add-more
+add-more c = search needs
 
 bad-requires-3 : tie.Need-bad-requires-3
 bad-requires-3 c κs = search needs
@@ -46,7 +46,7 @@ letter-spec =
     bad-requires-2
     returns-2
     shared-slice-read-if3
-    add-t11
+    add-more
     bad-requires-3
     returns-3
     returns-4)

@@ -28,8 +28,8 @@ returns c =
 enter-requires : tie.Need-enter-requires
 enter-requires c κs = search needs
 
-add-t21 : tie.Need-add-t21
-add-t21 c = search needs
+add-next : tie.Need-add-next
+add-next c = search needs
 
 same-length : tie.Need-same-length
 same-length c = search needs
@@ -56,7 +56,7 @@ send-spec =
     enum-known-p
     returns
     enter-requires
-    add-t21
+    add-next
     same-length
     same-length-2
     same-length-3

@@ -6,17 +6,17 @@ use borrow.Author.Needs.{needs}
 use Rattle.mf_flush.proofs.sift.head_mark.Statement.{statement}
 use Rattle.mf_flush.proofs.sift.head_mark.Tie as tie
 
-mul-t8 : tie.Need-mul-t8
-mul-t8 c = search needs
+mul-number : tie.Need-mul-number
+mul-number c = search needs
 
-shared-slice-read-t10 : tie.Need-shared-slice-read-t10
-shared-slice-read-t10 c = search needs
+shared-slice-read-number : tie.Need-shared-slice-read-number
+shared-slice-read-number c = search needs
 
-mul-t12 : tie.Need-mul-t12
-mul-t12 c = search needs
+mul-value : tie.Need-mul-value
+mul-value c = search needs
 
-shared-slice-read-t14 : tie.Need-shared-slice-read-t14
-shared-slice-read-t14 c = search needs
+shared-slice-read-value : tie.Need-shared-slice-read-value
+shared-slice-read-value c = search needs
 
 mark-of-requires : tie.Need-mark-of-requires
 mark-of-requires c κs = search needs
@@ -35,10 +35,10 @@ pub head-mark-spec : {M : Type 1} → statement M
 head-mark-spec =
     tie.close
     (tie.spec
-    mul-t8
-    shared-slice-read-t10
-    mul-t12
-    shared-slice-read-t14
+    mul-number
+    shared-slice-read-number
+    mul-value
+    shared-slice-read-value
     mark-of-requires
     returns
     returns-2)

@@ -28,17 +28,17 @@ loop-holds c =
     let a = c .before .before .before .before .before .before .args in
     (refl, refl, refl, sifting-all (a .m) (a .marks .now) (a .slot) (a .w .head) (a .w .tail) (a .numbers .now) (a .values .now) (listsOf (a .fates .now) (a .whens .now) (a .bys .now)) (c .before .before .before .before .before .before .pre))
 
-mul-t17 : tie.Need-mul-t17 Inv-loop μ-loop
-mul-t17 c = search needs
+mul-number : tie.Need-mul-number Inv-loop μ-loop
+mul-number c = search needs
 
-slice-read-t19 : tie.Need-slice-read-t19 Inv-loop μ-loop
-slice-read-t19 c = search needs
+slice-read-number : tie.Need-slice-read-number Inv-loop μ-loop
+slice-read-number c = search needs
 
-mul-t21 : tie.Need-mul-t21 Inv-loop μ-loop
-mul-t21 c = search needs
+mul-value : tie.Need-mul-value Inv-loop μ-loop
+mul-value c = search needs
 
-slice-read-t23 : tie.Need-slice-read-t23 Inv-loop μ-loop
-slice-read-t23 c = search needs
+slice-read-value : tie.Need-slice-read-value Inv-loop μ-loop
+slice-read-value c = search needs
 
 add-from : tie.Need-add-from Inv-loop μ-loop
 add-from c = search needs
@@ -122,10 +122,10 @@ sift-spec =
     Inv-loop
     μ-loop
     loop-holds
-    mul-t17
-    slice-read-t19
-    mul-t21
-    slice-read-t23
+    mul-number
+    slice-read-number
+    mul-value
+    slice-read-value
     add-from
     mark-of-requires
     goes-with-requires

@@ -28,17 +28,17 @@ add-k c = search needs
 sub-i : tie.Need-sub-i Inv-loop μ-loop
 sub-i c = search needs
 
-mul-t15 : tie.Need-mul-t15 Inv-loop μ-loop
-mul-t15 c = search needs
+mul-number : tie.Need-mul-number Inv-loop μ-loop
+mul-number c = search needs
 
-shared-slice-read-t17 : tie.Need-shared-slice-read-t17 Inv-loop μ-loop
-shared-slice-read-t17 c = search needs
+shared-slice-read-number : tie.Need-shared-slice-read-number Inv-loop μ-loop
+shared-slice-read-number c = search needs
 
-mul-t19 : tie.Need-mul-t19 Inv-loop μ-loop
-mul-t19 c = search needs
+mul-value : tie.Need-mul-value Inv-loop μ-loop
+mul-value c = search needs
 
-shared-slice-read-t21 : tie.Need-shared-slice-read-t21 Inv-loop μ-loop
-shared-slice-read-t21 c = search needs
+shared-slice-read-value : tie.Need-shared-slice-read-value Inv-loop μ-loop
+shared-slice-read-value c = search needs
 
 takes-mark-requires : tie.Need-takes-mark-requires Inv-loop μ-loop
 takes-mark-requires c κs = search needs
@@ -101,10 +101,10 @@ mark-down-spec =
     sub-k
     add-k
     sub-i
-    mul-t15
-    shared-slice-read-t17
-    mul-t19
-    shared-slice-read-t21
+    mul-number
+    shared-slice-read-number
+    mul-value
+    shared-slice-read-value
     takes-mark-requires
     place-of-requires
     put-requires

@@ -46,8 +46,8 @@ answered c choice e =
     by-choice (stateOf (start .args .self)) (values-whole (start .args .self) (start .good .0)) (numbers-whole (start .args .self) (start .good .0)) (start .args .value) choice
     (sym (told _ _ (c .decide .ensures)) ∙ e) (start .pre .0) (start .pre .1 .0) (start .pre .1 .1)
 
-add-t14 : tie.Need-add-t14
-add-t14 c = search needs
+add-given : tie.Need-add-given
+add-given c = search needs
 
 array-share-prefix-values : tie.Need-array-share-prefix-values
 array-share-prefix-values c = omega (arith, placed (c .before .before .before .before) .0, values-whole (c .before .before .before .before .args .self) (c .before .before .before .before .good .0))
@@ -118,7 +118,7 @@ pub accept-spec : {M : Type 1} → statement M
 accept-spec =
     tie.close
     (tie.spec
-    add-t14
+    add-given
     array-share-prefix-values
     slice-aggregate-decide
     decide-requires

@@ -10,8 +10,8 @@ use borrow.Author.Needs.{needs}
 use Rattle.rows.proofs.Parser.end_column.Statement.{statement}
 use Rattle.rows.proofs.Parser.end_column.Tie as tie
 
-add-t6 : tie.Need-add-t6
-add-t6 c = search needs
+add-column : tie.Need-add-column
+add-column c = search needs
 
 fresh-requires : tie.Need-fresh-requires
 fresh-requires c κs = search needs
@@ -37,7 +37,7 @@ pub end-column-spec : {M : Type 1} → statement M
 end-column-spec =
     tie.close
     (tie.spec
-    add-t6
+    add-column
     fresh-requires
     end-field-requires
     same-length

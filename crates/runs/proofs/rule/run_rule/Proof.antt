@@ -57,7 +57,7 @@ turn-requires c κs =
     let start = c .before .before .before .before .before .before .before .before .before .before .before .before .before .before in
     let a = start .args in
     let loop = c .before .before .before .before .before .before .before .before .loop in
-    (loop .inv .3 .within, (ruled-free (atOnce (a .room) (a .rule)) (a .slots .now) (a .values .now) (listsOf (a .fates .now) (a .whens .now) (a .bys .now)) (start .pre .0) (loop .numbers) (loop .held-values) (loop .w .head) (loop .w .tail) (loop .last .0) (loop .most) (loop .i) (listsOf (loop .fates) (loop .whens) (loop .bys)) (loop .inv .3), start .pre .1))
+    (loop .inv .3 .within, (ruled-free (atOnce (a .room) (a .rule)) (start .pre .0) (loop .inv .3), start .pre .1))
 
 sub-length : tie.Need-sub-length Inv-loop μ-loop
 sub-length c = omega (arith, c .before .before .before .before .before .before .before .before .before .turn .ensures .within .ordered)
@@ -78,8 +78,7 @@ loop-again c =
       taken .kept .1 .1 .0 ∙ loop .inv .0,
       taken .kept .1 .1 .1 .0 ∙ loop .inv .1,
       taken .kept .1 .1 .1 .1 .0 ∙ loop .inv .2,
-      ruled-turn (atOnce (a .room) (a .rule)) (a .slots .now) (a .values .now) (listsOf (a .fates .now) (a .whens .now) (a .bys .now)) (start .pre .0) (loop .numbers) (loop .held-values) (loop .w .head) (loop .w .tail) (loop .last .0) (loop .most) (loop .i) (listsOf (loop .fates) (loop .whens) (loop .bys)) (loop .inv .3) (c .before .before .before .before .before .before .before .before .before .before .before .before .before .before .before .before .before .before .loop-test .taken)
-          (taken .result) (taken .last .0) (taken .last .1 .0) (listsOf (taken .last .1 .1 .0) (taken .last .1 .1 .1 .0) (taken .last .1 .1 .1 .1 .0)) (c .if1 .most) (taken .ensures) (taken .kept .1 .0) most,
+      ruled-turn (atOnce (a .room) (a .rule)) (start .pre .0) (loop .inv .3) (c .before .before .before .before .before .before .before .before .before .before .before .before .before .before .before .before .before .before .loop-test .taken) (taken .ensures) (taken .kept .1 .0) most,
     )
 
 sub-left : tie.Need-sub-left Inv-loop μ-loop
@@ -90,14 +89,14 @@ cast-slots-left c =
     let start = c .before .before .before .before .before .before .before .before in
     let a = start .args in
     let loop = c .before .before .loop in
-    omega (arith, ruled-free (atOnce (a .room) (a .rule)) (a .slots .now) (a .values .now) (listsOf (a .fates .now) (a .whens .now) (a .bys .now)) (start .pre .0) (loop .numbers) (loop .held-values) (loop .w .head) (loop .w .tail) (loop .last .0) (loop .most) (loop .i) (listsOf (loop .fates) (loop .whens) (loop .bys)) (loop .inv .3), loop .inv .3 .places)
+    omega (arith, ruled-free (atOnce (a .room) (a .rule)) (start .pre .0) (loop .inv .3), loop .inv .3 .places)
 
 add-end : tie.Need-add-end Inv-loop μ-loop
 add-end c =
     let start = c .before .before .before .before .before .before .before .before .before in
     let a = start .args in
     let loop = c .before .before .before .loop in
-    omega (arith, ruled-free (atOnce (a .room) (a .rule)) (a .slots .now) (a .values .now) (listsOf (a .fates .now) (a .whens .now) (a .bys .now)) (start .pre .0) (loop .numbers) (loop .held-values) (loop .w .head) (loop .w .tail) (loop .last .0) (loop .most) (loop .i) (listsOf (loop .fates) (loop .whens) (loop .bys)) (loop .inv .3), loop .inv .3 .places, loop .inv .3 .course .last-fits)
+    omega (arith, ruled-free (atOnce (a .room) (a .rule)) (start .pre .0) (loop .inv .3), loop .inv .3 .places, loop .inv .3 .course .last-fits)
 
 slice-aggregate-send-until : tie.Need-slice-aggregate-send-until Inv-loop μ-loop
 slice-aggregate-send-until c = search needs
@@ -127,8 +126,8 @@ returns c =
     let loop = c .before .before .before .before .before .before .before .before .before .before .before .before .before .before .before .loop in
     let sent = c .before .before .before .before .before .before .send-until in
     let after = listsOf (sent .last .1 .1 .0) (sent .last .1 .1 .1 .0) (sent .last .1 .1 .1 .1 .0) in
-    ruled-end (atOnce (a .room) (a .rule)) (a .slots .now) (a .values .now) (listsOf (a .fates .now) (a .whens .now) (a .bys .now)) (start .pre .0) (loop .numbers) (loop .held-values) (loop .w .head) (loop .w .tail) (loop .last .0) (loop .most) (loop .i) (listsOf (loop .fates) (loop .whens) (loop .bys)) (loop .inv .3) (c .before .before .before .before .before .before .before .before .before .before .before .before .before .before .loop-test .left)
-    (sent .result) after (record { 0 = loop .last .0 + (loop .w .tail - loop .w .head) }) refl
+    ruled-end (atOnce (a .room) (a .rule)) (start .pre .0) (loop .inv .3) (c .before .before .before .before .before .before .before .before .before .before .before .before .before .before .loop-test .left)
+    (record { 0 = loop .last .0 + (loop .w .tail - loop .w .head) }) refl
     (sent-steps (loop .w) (loop .numbers) (loop .held-values) (loop .inv .3 .within) (loop .last) (record { 0 = loop .last .0 + (loop .w .tail - loop .w .head) }) (listsOf (loop .fates) (loop .whens) (loop .bys)) after (sent .result) (sent .ensures))
 
 pub run-rule-spec : {M : Type 1} → statement M

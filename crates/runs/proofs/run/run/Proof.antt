@@ -56,7 +56,7 @@ turn-requires c κs =
     let start = c .before .before .before .before .before .before .before .before .before .before .before .before .before .before .before .before .before in
     let a = start .args in
     let loop = c .before .before .before .before .before .before .before .before .before .loop in
-    (loop .inv .4 .within, going-free (a .policy) (a .slots .now) (a .values .now) (a .kept .now) (a .marks .now) (listsOf (a .fates .now) (a .whens .now) (a .bys .now)) (start .pre) (loop .numbers) (loop .held-values) (loop .marks) (loop .w .head) (loop .w .tail) (loop .last .0) (loop .most) (loop .i) (listsOf (loop .fates) (loop .whens) (loop .bys)) (loop .inv .4))
+    (loop .inv .4 .within, going-free (a .policy) (a .kept .now) (start .pre) (loop .inv .4))
 
 sub-length : tie.Need-sub-length Inv-loop μ-loop
 sub-length c = omega (arith, c .before .before .before .before .before .before .before .before .before .before .before .turn .ensures .within .ordered)
@@ -78,8 +78,7 @@ loop-again c =
       taken .kept .1 .1 .1 .1 .1 .0 ∙ loop .inv .1,
       taken .kept .1 .1 .1 .1 .1 .1 .0 ∙ loop .inv .2,
       taken .kept .1 .1 .1 .1 .1 .1 .1 .0 ∙ loop .inv .3,
-      going-turn (a .policy) (a .slots .now) (a .values .now) (a .kept .now) (a .marks .now) (listsOf (a .fates .now) (a .whens .now) (a .bys .now)) (start .pre) (loop .numbers) (loop .held-values) (loop .marks) (loop .w .head) (loop .w .tail) (loop .last .0) (loop .most) (loop .i) (listsOf (loop .fates) (loop .whens) (loop .bys)) (loop .inv .4) (c .before .before .before .before .before .before .before .before .before .before .before .before .before .before .before .before .before .before .before .before .before .loop-test .taken)
-          (taken .result) (taken .last .0) (taken .last .1 .0) (taken .last .1 .1 .1 .1 .0) (listsOf (taken .last .1 .1 .1 .1 .1 .0) (taken .last .1 .1 .1 .1 .1 .1 .0) (taken .last .1 .1 .1 .1 .1 .1 .1 .0)) (c .if1 .most) (taken .ensures) (taken .kept .1 .0) most,
+      going-turn (a .policy) (a .kept .now) (start .pre) (loop .inv .4) (c .before .before .before .before .before .before .before .before .before .before .before .before .before .before .before .before .before .before .before .before .before .loop-test .taken) (taken .ensures) (taken .kept .1 .0) most,
     )
 
 sub-left : tie.Need-sub-left Inv-loop μ-loop
@@ -90,14 +89,14 @@ cast-slots-left c =
     let start = c .before .before .before .before .before .before .before .before .before .before in
     let a = start .args in
     let loop = c .before .before .loop in
-    omega (arith, going-free (a .policy) (a .slots .now) (a .values .now) (a .kept .now) (a .marks .now) (listsOf (a .fates .now) (a .whens .now) (a .bys .now)) (start .pre) (loop .numbers) (loop .held-values) (loop .marks) (loop .w .head) (loop .w .tail) (loop .last .0) (loop .most) (loop .i) (listsOf (loop .fates) (loop .whens) (loop .bys)) (loop .inv .4), loop .inv .4 .places)
+    omega (arith, going-free (a .policy) (a .kept .now) (start .pre) (loop .inv .4), loop .inv .4 .places)
 
 add-end : tie.Need-add-end Inv-loop μ-loop
 add-end c =
     let start = c .before .before .before .before .before .before .before .before .before .before .before in
     let a = start .args in
     let loop = c .before .before .before .loop in
-    omega (arith, going-free (a .policy) (a .slots .now) (a .values .now) (a .kept .now) (a .marks .now) (listsOf (a .fates .now) (a .whens .now) (a .bys .now)) (start .pre) (loop .numbers) (loop .held-values) (loop .marks) (loop .w .head) (loop .w .tail) (loop .last .0) (loop .most) (loop .i) (listsOf (loop .fates) (loop .whens) (loop .bys)) (loop .inv .4), loop .inv .4 .places, loop .inv .4 .course .last-fits)
+    omega (arith, going-free (a .policy) (a .kept .now) (start .pre) (loop .inv .4), loop .inv .4 .places, loop .inv .4 .course .last-fits)
 
 slice-aggregate-end-slots : tie.Need-slice-aggregate-end-slots Inv-loop μ-loop
 slice-aggregate-end-slots c = search needs
@@ -129,8 +128,8 @@ returns c =
     let a = start .args in
     let loop = c .before .before .before .before .before .before .before .before .before .before .before .before .before .before .before .before .before .before .before .before .loop in
     let ended = c .before .before .before .before .before .before .before .before .before .before .end-slots in
-    going-end (a .policy) (a .slots .now) (a .values .now) (a .kept .now) (a .marks .now) (listsOf (a .fates .now) (a .whens .now) (a .bys .now)) (start .pre) (loop .numbers) (loop .held-values) (loop .marks) (loop .w .head) (loop .w .tail) (loop .last .0) (loop .most) (loop .i) (listsOf (loop .fates) (loop .whens) (loop .bys)) (loop .inv .4) (c .before .before .before .before .before .before .before .before .before .before .before .before .before .before .before .before .before .before .before .loop-test .left)
-    (ended .result) (ended .last .0) (ended .last .1 .0) (ended .last .1 .1 .1 .0) (listsOf (ended .last .1 .1 .1 .1 .0) (ended .last .1 .1 .1 .1 .1 .0) (ended .last .1 .1 .1 .1 .1 .1 .0)) (record { 0 = loop .last .0 + (loop .w .tail - loop .w .head) }) refl (ended .ensures)
+    going-end (a .policy) (a .kept .now) (start .pre) (loop .inv .4) (c .before .before .before .before .before .before .before .before .before .before .before .before .before .before .before .before .before .before .before .loop-test .left)
+    (record { 0 = loop .last .0 + (loop .w .tail - loop .w .head) }) refl (ended .ensures)
 
 pub run-spec : {M : Type 1} → statement M
 run-spec =

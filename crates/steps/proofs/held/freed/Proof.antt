@@ -17,8 +17,8 @@ slide-requires c κs = search needs
 slide-requires-2 : tie.Need-slide-requires-2
 slide-requires-2 c κs = search needs
 
-sub-t6 : tie.Need-sub-t6
-sub-t6 c = search needs
+sub-held : tie.Need-sub-held
+sub-held c = search needs
 
 same-length : tie.Need-same-length
 same-length c = search needs
@@ -38,4 +38,4 @@ returns-2 c =
 pub freed-spec : {M : Type 1} → statement M
 freed-spec =
     tie.close
-    (tie.spec returns slide-requires slide-requires-2 sub-t6 same-length same-length-2 returns-2)
+    (tie.spec returns slide-requires slide-requires-2 sub-held same-length same-length-2 returns-2)

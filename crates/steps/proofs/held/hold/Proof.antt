@@ -21,8 +21,8 @@ mul-values c = search needs
 slice-write-values : tie.Need-slice-write-values
 slice-write-values c = search needs
 
-add-t12 : tie.Need-add-t12
-add-t12 c = search needs
+add-end : tie.Need-add-end
+add-end c = search needs
 
 same-length : tie.Need-same-length
 same-length c = search needs
@@ -46,7 +46,7 @@ hold-spec =
     slice-write-numbers
     mul-values
     slice-write-values
-    add-t12
+    add-end
     same-length
     same-length-2
     returns)

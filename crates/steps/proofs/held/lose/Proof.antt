@@ -19,8 +19,8 @@ add-slide-2 c = search needs
 slide-requires-2 : tie.Need-slide-requires-2
 slide-requires-2 c κs = search needs
 
-sub-t10 : tie.Need-sub-t10
-sub-t10 c = search needs
+sub-end : tie.Need-sub-end
+sub-end c = search needs
 
 same-length : tie.Need-same-length
 same-length c = search needs
@@ -44,7 +44,7 @@ lose-spec =
     slide-requires
     add-slide-2
     slide-requires-2
-    sub-t10
+    sub-end
     same-length
     same-length-2
     returns)

@@ -6,17 +6,17 @@ use borrow.Author.Needs.{needs}
 use Rattle.steps.proofs.held.oldest.Statement.{statement}
 use Rattle.steps.proofs.held.oldest.Tie as tie
 
-mul-t7 : tie.Need-mul-t7
-mul-t7 c = search needs
+mul-number : tie.Need-mul-number
+mul-number c = search needs
 
-shared-slice-read-t9 : tie.Need-shared-slice-read-t9
-shared-slice-read-t9 c = search needs
+shared-slice-read-number : tie.Need-shared-slice-read-number
+shared-slice-read-number c = search needs
 
-mul-t11 : tie.Need-mul-t11
-mul-t11 c = search needs
+mul-value : tie.Need-mul-value
+mul-value c = search needs
 
-shared-slice-read-t13 : tie.Need-shared-slice-read-t13
-shared-slice-read-t13 c = search needs
+shared-slice-read-value : tie.Need-shared-slice-read-value
+shared-slice-read-value c = search needs
 
 returns : tie.Need-returns
 returns c =
@@ -32,4 +32,4 @@ returns-2 c =
 pub oldest-spec : {M : Type 1} → statement M
 oldest-spec =
     tie.close
-    (tie.spec mul-t7 shared-slice-read-t9 mul-t11 shared-slice-read-t13 returns returns-2)
+    (tie.spec mul-number shared-slice-read-number mul-value shared-slice-read-value returns returns-2)

@@ -8,11 +8,11 @@ use Rattle.steps.proofs.step.replace.Tie as tie
 add-at : tie.Need-add-at
 add-at c = search needs
 
-mul-t14 : tie.Need-mul-t14
-mul-t14 c = search needs
+mul-number : tie.Need-mul-number
+mul-number c = search needs
 
-slice-read-t16 : tie.Need-slice-read-t16
-slice-read-t16 c = search needs
+slice-read-number : tie.Need-slice-read-number
+slice-read-number c = search needs
 
 fate-requires : tie.Need-fate-requires
 fate-requires c κs = search needs
@@ -66,8 +66,8 @@ replace-spec =
     tie.close
     (tie.spec
     add-at
-    mul-t14
-    slice-read-t16
+    mul-number
+    slice-read-number
     fate-requires
     enter-requires
     lose-requires
