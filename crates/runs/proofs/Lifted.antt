@@ -53,12 +53,9 @@ module _ (rule : List Packet → Packet → Decided) (marks : List ℕ) where
       let same = lifted-course first [] trace in
       let most = lifted-most first [] trace in
       record {
-        same = R .same;
-        few = R .few;
-        slots-fit = R .slots-fit;
+        runnable = record { same = R .runnable .same; few = R .runnable .few; slots-fit = R .runnable .slots-fit; short = rw most (R .runnable .short) };
         values-fit = R .values-fit;
         sized = R .sized;
-        short = rw most (R .short);
         formed = rw same (R .formed);
         most = rw (same, most) (R .most);
       }

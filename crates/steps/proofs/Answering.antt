@@ -40,13 +40,13 @@ module _ {S : Type 0} (P : Policy S) (s : S) (slots values : List ℕ) (lists : 
   countable after e =
       subst (λ (l : Lists). Countable values (l .fates)) (sym e)
       (record {
-        same = R .same ∙ sym (R .formed .sized .fates);
-        few = rw (R .formed .sized .fates) (R .few);
+        same = R .runnable .same ∙ sym (R .formed .sized .fates);
+        few = rw (R .formed .sized .fates) (R .runnable .few);
         values-fit = R .values-fit;
       })
 
   totals-rows : totalsOf (rows (arrivals slots values) written) ≡ totalsBy values (written .fates) (mostQueue P first s (arrivals slots values))
-  totals-rows = rows-totals slots values written (R .same) (R .formed .sized) ∙ ap (totalsBy values (written .fates)) (R .most)
+  totals-rows = rows-totals slots values written (R .runnable .same) (R .formed .sized) ∙ ap (totalsBy values (written .fates)) (R .most)
 
   answered : (after : Lists) → after ≡ written → (most : ℕ) → most ≡ mostQueue P first s (arrivals slots values)
       → (t : Totals) → t ≡ totalsBy values (after .fates) most → outcome (Ran t) after ≡ ran slots values entries
@@ -76,12 +76,9 @@ pub ready : {S : Type 0} (P : Policy S) (s : S) (ok : ℕ → Bool) → ((v : �
     → WellFormed slots values (course P first s (arrivals slots values)) → Lawful P s slots values room → Ready P s slots values lists
 ready P s ok in-range slots values room lists T W L =
     record {
-      same = T .lengths;
-      few = T .few;
-      slots-fit = T .packets .slot-to;
+      runnable = record { same = T .lengths; few = T .few; slots-fit = T .packets .slot-to; short = omega (arith, L .within-room, T .room-to) };
       values-fit = λ k h. in-range (getD values k 0) (T .packets .taken k (rw (T .lengths) at h));
       sized = T .sized;
-      short = omega (arith, L .within-room, T .room-to);
       formed = W;
       most = L .most;
     }

@@ -90,11 +90,6 @@ abbrev pub Moves : Window → Window → LentList → LentList → LentList → 
 Moves w r numbers values fates whens bys step =
     movedTo r numbers values fates whens bys ≡ on step (movedFrom w numbers values fates whens bys)
 
--- a call makes a step on both
-abbrev pub Moves : Window → Window → LentList → LentList → LentList → LentList → LentList → (Lent → Lists → Moved) → Type 0
-Moves w r numbers values fates whens bys step =
-    movedTo r numbers values fates whens bys ≡ on step (movedFrom w numbers values fates whens bys)
-
 -- where the queue stands after a decision: the arrival needs a place behind the others only where it is held and none is lost
 abbrev pub decidedPlace : Decision → Lent → ℕ
 decidedPlace held l = openPlace l

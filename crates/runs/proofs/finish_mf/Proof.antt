@@ -26,14 +26,14 @@ slice-aggregate-finish-2 : tie.Need-slice-aggregate-finish-2
 slice-aggregate-finish-2 c =
     let start = c .before .before .before .before .before .before .before in
     let a = start .args in
-    sym (length-take-le (length (a .slots .now)) _ (start .pre .few))
+    sym (length-take-le (length (a .slots .now)) _ (start .pre .runnable .few))
 
 finish-requires : tie.Need-finish-requires
 finish-requires c κs =
     let start = c .before .before .before .before .before .before .before .before .before .before in
     let a = start .args in
     subst (λ (s : Marked). Ready (mfPolicy (a .room) (a .marking) (a .slots .now)) s (a .slots .now) (a .values .now) (listsOf (a .fates .now) (a .whens .now) (a .bys .now)))
-    (sym (ap (beside []) (first-zeros (length (a .slots .now)) (recordLimits .packets) (start .pre .few)))) (start .pre)
+    (sym (ap (beside []) (first-zeros (length (a .slots .now)) (recordLimits .packets) (start .pre .runnable .few)))) (start .pre)
 
 same-length : tie.Need-same-length
 same-length c = search needs
@@ -50,7 +50,7 @@ returns c =
     let a = start .args in
     c .before .before .before .before .before .before .before .finish .ensures
     ∙ ap (λ (s : Marked). ran (a .slots .now) (a .values .now) (course (mfPolicy (a .room) (a .marking) (a .slots .now)) first s (arrivals (a .slots .now) (a .values .now))))
-    (ap (beside []) (first-zeros (length (a .slots .now)) (recordLimits .packets) (start .pre .few)))
+    (ap (beside []) (first-zeros (length (a .slots .now)) (recordLimits .packets) (start .pre .runnable .few)))
 
 pub finish-mf-spec : {M : Type 1} → statement M
 finish-mf-spec =
