@@ -20,7 +20,7 @@ use Rattle.steps.specs.declared.Window.{Window}
 use Rattle.entry.specs.Entry.{entry}
 use Rattle.steps.specs.Window.{windowOf, Within}
 use Rattle.steps.specs.Step.{Stepped}
-use Rattle.mf_marks.specs.Mark.{packetIn}
+use Rattle.model.specs.Packets.{packetIn}
 use Rattle.mf_flush.specs.Flush.{flushing}
 use Rattle.steps.specs.Lent.{lent, placed}
 use Rattle.steps.proofs.Windows.{window, window-cons, window-none, stored}

@@ -13,7 +13,7 @@ use borrow.Author.Tests.{ne-eqb, eq-eqb}
 use Rattle.model.specs.declared.Packet.{Packet}
 use Rattle.model.specs.declared.PacketNumber.{PacketNumber}
 use Rattle.model.specs.declared.Slot.{Slot}
-use Rattle.model.specs.Packets.{placeOf}
+use Rattle.model.specs.Packets.{packetIn, placeOf}
 use Rattle.model.specs.Port.{packetsOf}
 use Rattle.model.specs.declared.Marking.{Marking}
 use Rattle.model.specs.Policies.MF.{isMarked, markDown, markFrom}
@@ -21,7 +21,7 @@ use Rattle.laws.proofs.Cases.{below}
 use Rattle.queue.proofs.Packets.{packets-take}
 use Rattle.steps.specs.declared.Window.{Window}
 use Rattle.steps.specs.Window.{part, windowOf, Within}
-use Rattle.mf_marks.specs.Mark.{packetIn, olderThan, markedBy}
+use Rattle.mf_marks.specs.Mark.{olderThan, markedBy}
 use Rattle.steps.proofs.Windows.{window, window-cons, window-none}
 
 pub twice-not : (t : Bool) → t ≡ not (not t)

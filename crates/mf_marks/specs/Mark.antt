@@ -3,11 +3,10 @@ use Prim.Native.Nat.{ℕ, zero, suc, _+_}
 use mathlib.Core.List.{List, [], _∷_}
 use mathlib.Core.Path.{_≡_}
 use mathlib.Core.Bool.{cond, _&&_}
-use lib.ListN.{getD}
 use lib.Dec.{eqb}
 use Rattle.model.specs.declared.Packet.{Packet}
 use Rattle.model.specs.declared.Slot.{Slot}
-use Rattle.model.specs.Packets.{slotOf}
+use Rattle.model.specs.Packets.{packetIn, slotOf}
 use Rattle.model.specs.declared.Marking.{Marking}
 use Rattle.model.specs.Policies.MF.{Marked, markDown}
 use Rattle.model.specs.Lent.{LentList, was, left}
@@ -15,10 +14,6 @@ use Rattle.steps.specs.declared.Window.{Window}
 use Rattle.steps.specs.Window.{windowOf}
 use Rattle.steps.specs.Guarded.{Guarded}
 use Rattle.steps.specs.Lent.{liesBefore}
-
--- the packet at a place of two lists
-abbrev pub packetIn : List ℕ → List ℕ → ℕ → Packet
-packetIn numbers values place = record { number = record { 0 = getD numbers place 0 }; value = getD values place 0 }
 
 -- the first n packets from `head` on, newest first
 unfoldable pub olderThan : List ℕ → List ℕ → ℕ → ℕ → List Packet

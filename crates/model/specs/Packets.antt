@@ -11,16 +11,24 @@ pub record Arrival : Type 0 where
   pub slot : Slot
   pub packet : Packet
 
+-- the packet with this number and this value
+abbrev pub packetOf : ℕ → ℕ → Packet
+packetOf number value = record { number = record { 0 = number }; value = value }
+
+-- the packet at a place of a list of numbers and a list of values
+abbrev pub packetIn : List ℕ → List ℕ → ℕ → Packet
+packetIn numbers values place = packetOf (getD numbers place 0) (getD values place 0)
+
 -- no packet: its number and its value are 0
 abbrev pub nobody : Packet
-nobody = record { number = record { 0 = 0 }; value = 0 }
+nobody = packetOf 0 0
 
 -- the packets of the list of slots and the list of values, numbered from n
 unfoldable pub arrivalsFrom : ℕ → List ℕ → List ℕ → List Arrival
 arrivalsFrom n [] values = []
 arrivalsFrom n (s ∷ slots) [] = []
 arrivalsFrom n (s ∷ slots) (v ∷ values) =
-    record { slot = record { 0 = s }; packet = record { number = record { 0 = n }; value = v } }
+    record { slot = record { 0 = s }; packet = packetOf n v }
     ∷ arrivalsFrom (suc n) slots values
 
 -- packets are numbered from 1 in list order

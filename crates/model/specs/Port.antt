@@ -9,7 +9,7 @@ use Rattle.model.specs.declared.Packet.{Packet}
 use Rattle.model.specs.declared.Beta.{Beta}
 use Rattle.model.specs.declared.Fate.the-variants as fates
 use Rattle.model.specs.Limits.{portLimits}
-use Rattle.model.specs.Packets.{nobody, valuesOf}
+use Rattle.model.specs.Packets.{packetOf, nobody, valuesOf}
 use Rattle.model.specs.Numbers.{fateNumber}
 use Rattle.model.specs.Record.{lossFate}
 use Rattle.model.specs.Course.{Decision, held, rejected, losing}
@@ -66,7 +66,7 @@ sound port =
 unfoldable pub packetsOf : List ℕ → List ℕ → List Packet
 packetsOf [] values = []
 packetsOf (n ∷ numbers) [] = []
-packetsOf (n ∷ numbers) (v ∷ values) = record { number = record { 0 = n }; value = v } ∷ packetsOf numbers values
+packetsOf (n ∷ numbers) (v ∷ values) = packetOf n v ∷ packetsOf numbers values
 
 -- the held packets, oldest first
 abbrev pub queueOf : PortState → List Packet
@@ -112,7 +112,7 @@ saysOf n (losing l) = portSays (fateNumber (lossFate (l .kind))) n (l .packet)
 
 -- the packet that arrives: numbers run from 1, and a rejected packet uses one
 abbrev pub nextPacket : PortState → ℕ → Packet
-nextPacket port value = record { number = record { 0 = suc (port .last .0) }; value = value }
+nextPacket port value = packetOf (suc (port .last .0)) value
 
 -- an arrival
 unfoldable pub arriveCall : PortState → ℕ → PortOutcome

@@ -11,7 +11,7 @@ use lib.Dec.{ltb}
 use borrow.Author.Tests.{ltb-true}
 use Rattle.model.specs.declared.Packet.{Packet}
 use Rattle.model.specs.Limits.{portLimits}
-use Rattle.model.specs.Packets.{valuesOf}
+use Rattle.model.specs.Packets.{packetOf, valuesOf}
 use Rattle.model.specs.Policies.Greedy.{without, loserAt}
 use Rattle.model.specs.Refusals.{valueOk}
 use Rattle.model.specs.Port.{PortState, queueOf, holding, sound, arriveCall}
@@ -59,11 +59,11 @@ module _ (port : PortState) (values-whole : length (port .values) ≡ portLimits
     -- the packet that arrives has the next number
     module _ (sounds : sound port ≡ true) (ok : valueOk value ≡ true) (left : port .last .0 < portLimits .number) where
       abbrev p : Packet
-      p = record { number = record { 0 = port .last .0 + 1 }; value = value }
+      p = packetOf (port .last .0 + 1) value
 
       pub by-choice : chosen port value p choice ≡ arriveCall port value
       by-choice =
-          ap₂ (λ (n : ℕ) (c : Choice). chosen port value (record { number = record { 0 = n }; value = value }) c) (add-one (port .last .0))
+          ap₂ (λ (n : ℕ) (c : Choice). chosen port value (packetOf n value) c) (add-one (port .last .0))
           (sym e ∙ ap (λ (vs : List ℕ). choose (port .room) (PG (port .beta)) vs value) (sym held-values))
           ∙ sym (arrival-done port value sounds ok left)
 

@@ -10,7 +10,7 @@ use lib.Dec.{eqb}
 use Rattle.model.specs.declared.Packet.{Packet}
 use Rattle.model.specs.declared.PacketNumber.{PacketNumber}
 use Rattle.model.specs.Limits.{portLimits}
-use Rattle.model.specs.Packets.{nobody, valuesOf, numbersOf}
+use Rattle.model.specs.Packets.{packetOf, nobody, valuesOf, numbersOf}
 use Rattle.model.specs.Policies.Greedy.{without}
 use Rattle.model.specs.Port.{PortState, packetsOf, queueOf, inPlaces, holding, all}
 use Rattle.laws.proofs.Lists.{length-without}
@@ -104,13 +104,13 @@ module _ (port : PortState) (P : Placed port) where
 
   -- the packet at a place
   pub packet-at : port .held ≤ portLimits .room → (place : ℕ) → place < port .held → {v n : ℕ} → v ≡ getD (port .values) place 0 → n ≡ getD (port .numbers) place 0
-      → record { number = record { 0 = n }; value = v } ≡ getD queue place nobody
+      → packetOf n v ≡ getD queue place nobody
   packet-at fits place inside v n =
       let ns = take (port .held) (port .numbers) in
       let vs = take (port .held) (port .values) in
       let all-values : length vs ≡ port .held = simp length-take (omega (arith, values-fit fits)) in
       let all-numbers : length ns ≡ port .held = simp length-take (omega (arith, numbers-fit fits)) in
-      ap₂ (λ (k w : ℕ). record { number = record { 0 = k }; value = w })
+      ap₂ packetOf
       (n ∙ sym (getD-take (port .held) (port .numbers) place 0 inside))
       (v ∙ sym (getD-take (port .held) (port .values) place 0 inside))
       ∙ sym (packets-at ns vs place (all-numbers ∙ sym all-values) (omega arith))

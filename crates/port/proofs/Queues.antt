@@ -9,7 +9,7 @@ use lib.ListN.{length, take, drop, length-append, length-take, length-drop}
 use lib.Dec.{leb, ltb}
 use borrow.Author.Tests.{ltb-true, leb-true, lt-ltb, le-leb}
 use Rattle.model.specs.declared.Packet.{Packet}
-use Rattle.model.specs.Packets.{valuesOf, numbersOf}
+use Rattle.model.specs.Packets.{packetOf, valuesOf, numbersOf}
 use Rattle.model.specs.Policies.Greedy.{without}
 use Rattle.model.specs.Refusals.{valueOk}
 use Rattle.model.specs.Port.{PortState, packetsOf, queueOf, all, risesFrom}
@@ -138,10 +138,10 @@ module _ (room last : ℕ) (queue : List Packet) (H : Holdable room last queue) 
       }
 
   pub holdable-behind : (value : ℕ) → valueOk value ≡ true → length queue < room
-      → Holdable room (suc last) (queue ++ record { number = record { 0 = suc last }; value = value } ∷ [])
+      → Holdable room (suc last) (queue ++ packetOf (suc last) value ∷ [])
   unfolding all
   holdable-behind value ok free =
-      let p : Packet = record { number = record { 0 = suc last }; value = value } in
+      let p : Packet = packetOf (suc last) value in
       record {
         short = simp length-append (omega arith);
         values-ok =
@@ -154,7 +154,7 @@ module _ (room last : ℕ) (queue : List Packet) (H : Holdable room last queue) 
 
 -- what a choice leaves can be held
 pub holdable-applied : (room last : ℕ) (queue : List Packet) → Holdable room last queue → (value : ℕ) → valueOk value ≡ true → (choice : Choice)
-    → Allowed room (length queue) choice → Holdable room (suc last) (applied choice queue (record { number = record { 0 = suc last }; value = value }) .queue)
+    → Allowed room (length queue) choice → Holdable room (suc last) (applied choice queue (packetOf (suc last) value) .queue)
 holdable-applied room last queue H value ok Hold free = holdable-behind room last queue H value ok free
 holdable-applied room last queue H value ok Reject free = holdable-later room last queue H
 holdable-applied room last queue H value ok (Lose place kind) inside =

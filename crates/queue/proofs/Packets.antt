@@ -5,19 +5,16 @@ use mathlib.Core.List.{List, [], _∷_, _++_, map, map-append}
 use native.Mathlib.Omega.{arith}
 use lib.ListN.{length, getD, take, drop}
 use Rattle.model.specs.declared.Packet.{Packet}
-use Rattle.model.specs.Packets.{nobody, valuesOf, numbersOf}
+use Rattle.model.specs.Packets.{packetOf, packetIn, nobody, valuesOf, numbersOf}
 use Rattle.model.specs.Policies.Greedy.{without}
 use Rattle.model.specs.Port.{packetsOf}
-
-abbrev packet : ℕ → ℕ → Packet
-packet k v = record { number = record { 0 = k }; value = v }
 
 pub packets-take : (n : ℕ) (numbers values : List ℕ) → packetsOf (take n numbers) (take n values) ≡ take n (packetsOf numbers values)
 unfolding packetsOf
 packets-take zero numbers values = refl
 packets-take (suc n) [] values = refl
 packets-take (suc n) (k ∷ numbers) [] = refl
-packets-take (suc n) (k ∷ numbers) (v ∷ values) = ap (λ (queue : List Packet). packet k v ∷ queue) (packets-take n numbers values)
+packets-take (suc n) (k ∷ numbers) (v ∷ values) = ap (λ (queue : List Packet). packetOf k v ∷ queue) (packets-take n numbers values)
 
 pub packets-drop : (n : ℕ) (numbers values : List ℕ) → packetsOf (drop n numbers) (drop n values) ≡ drop n (packetsOf numbers values)
 unfolding packetsOf
@@ -37,7 +34,7 @@ packets-append [] [] more others same = refl
 packets-append [] (v ∷ values) more others same = absurd (omega arith)
 packets-append (k ∷ numbers) [] more others same = absurd (omega arith)
 packets-append (k ∷ numbers) (v ∷ values) more others same =
-    ap (λ (queue : List Packet). packet k v ∷ queue) (packets-append numbers values more others (omega arith))
+    ap (λ (queue : List Packet). packetOf k v ∷ queue) (packets-append numbers values more others (omega arith))
 
 pub packets-values : (numbers values : List ℕ) → length numbers ≡ length values → valuesOf (packetsOf numbers values) ≡ values
 unfolding packetsOf
@@ -54,7 +51,7 @@ packets-length (k ∷ numbers) [] same = absurd (omega arith)
 packets-length (k ∷ numbers) (v ∷ values) same = ap suc (packets-length numbers values (omega arith))
 
 pub packets-at : (numbers values : List ℕ) (i : ℕ) → length numbers ≡ length values → i < length values
-    → getD (packetsOf numbers values) i nobody ≡ record { number = record { 0 = getD numbers i 0 }; value = getD values i 0 }
+    → getD (packetsOf numbers values) i nobody ≡ packetIn numbers values i
 unfolding packetsOf
 packets-at [] [] i same inside = absurd (omega arith)
 packets-at [] (v ∷ values) i same inside = absurd (omega arith)

@@ -12,7 +12,7 @@ use Rattle.model.specs.declared.Packet.{Packet}
 use Rattle.model.specs.declared.Slot.{Slot}
 use Rattle.model.specs.declared.Fate.the-variants as fates
 use Rattle.model.specs.declared.LossKind.{LossKind}
-use Rattle.model.specs.Packets.{nobody, valuesOf}
+use Rattle.model.specs.Packets.{packetOf, packetIn, nobody, valuesOf}
 use Rattle.model.specs.Record.{Lists, enter, entered}
 use Rattle.model.specs.Course.{Decided, byRule}
 use Rattle.model.specs.Policies.Greedy.{loserAt}
@@ -41,11 +41,11 @@ module _ (w : Window) (numbers values : List ℕ) (W : Within w numbers values) 
 
   pub window-at : (place : ℕ) → w .head + place < w .tail
       → getD (windowOf w numbers values) place nobody
-      ≡ record { number = record { 0 = getD numbers (w .head + place) 0 }; value = getD values (w .head + place) 0 }
+      ≡ packetIn numbers values (w .head + place)
   unfolding windowOf
   window-at place inside =
       packets-at (part w numbers) (part w values) place parts-same (rw (part-length w values (W .inside)) (omega arith))
-      ∙ ap₂ (λ (n v : ℕ). record { number = record { 0 = n }; value = v }) (entry-at numbers) (entry-at values)
+      ∙ ap₂ packetOf (entry-at numbers) (entry-at values)
     where
       entry-at : (list : List ℕ) → getD (part w list) place 0 ≡ getD list (w .head + place) 0
       entry-at list = getD-take (w .tail - w .head) (drop (w .head) list) place 0 (omega arith) ∙ getD-drop (w .head) list place 0

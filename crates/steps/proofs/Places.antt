@@ -6,11 +6,11 @@ use native.Mathlib.Numerals.{add-one}
 use native.Mathlib.Omega.{arith}
 use native.Mathlib.Nat.{add-zero, add-suc, suc-add}
 use lib.ListN.{length, getD, take, drop, replicate}
-use Rattle.model.specs.Packets.{Arrival, arrivalsFrom, arrivals}
+use Rattle.model.specs.Packets.{packetOf, Arrival, arrivalsFrom, arrivals}
 use Rattle.steps.specs.Places.{packetAt}
 
 numbered : ℕ → ℕ → ℕ → Arrival
-numbered s n v = record { slot = record { 0 = s }; packet = record { number = record { 0 = n }; value = v } }
+numbered s n v = record { slot = record { 0 = s }; packet = packetOf n v }
 
 arrivals-from-at : (n i : ℕ) (slots values : List ℕ) → length values ≡ length slots → i < length slots
     → drop i (arrivalsFrom n slots values) ≡ numbered (getD slots i 0) (n + i) (getD values i 0) ∷ drop (suc i) (arrivalsFrom n slots values)

@@ -10,6 +10,7 @@ use lib.ListN.{length, getD, take, drop, set, length-take, length-drop, length-s
 use lib.Seq.{take-nil, drop-set-add, take-suc-set, drop-cons}
 use lib.Dec.{ltb}
 use borrow.Author.Tests.{ltb-true, ltb-false}
+use Rattle.model.specs.Packets.{packetIn}
 use Rattle.model.specs.declared.Packet.{Packet}
 use Rattle.model.specs.Port.{packetsOf}
 use Rattle.model.specs.declared.SlotAnswer.the-variants.{Sent}
@@ -64,7 +65,7 @@ part-cons head tail list some fits =
 module _ (head tail : ℕ) (numbers values : List ℕ) (W : Within (window head tail) numbers values) where
   pub window-cons : head < tail
       → windowOf (window head tail) numbers values
-      ≡ record { number = record { 0 = getD numbers head 0 }; value = getD values head 0 }
+      ≡ packetIn numbers values head
       ∷ windowOf (window (head + 1) tail) numbers values
   unfolding windowOf packetsOf
   window-cons some =
@@ -89,7 +90,7 @@ module _ (head tail : ℕ) (numbers values : List ℕ) (W : Within (window head 
       go true f =
           let some : head < tail = ltb-true head tail f in
           let cons = window-cons some in
-          let first : Packet = record { number = record { 0 = getD numbers head 0 }; value = getD values head 0 } in
+          let first : Packet = packetIn numbers values head in
           let same : Sent first ≡ Sent p = sym (ap oldestOf cons) ∙ sent in
           let is : first ≡ p = cc in
           (some, cons ∙ ap (λ (q : Packet). q ∷ windowOf (window (head + 1) tail) numbers values) is)

@@ -11,7 +11,7 @@ use Rattle.model.specs.declared.Packet.{Packet}
 use Rattle.model.specs.declared.Beta.{Beta}
 use Rattle.model.specs.declared.MakingAnswer.the-variants.{Made}
 use Rattle.model.specs.Limits.{portLimits, within}
-use Rattle.model.specs.Packets.{Arrival, arrivalsFrom, arrivals, slotsUntil}
+use Rattle.model.specs.Packets.{packetOf, Arrival, arrivalsFrom, arrivals, slotsUntil}
 use Rattle.model.specs.Record.{Entry, Lists, recordOf}
 use Rattle.model.specs.Course.{Step, byRule, slotEnds, course}
 use Rattle.model.specs.Policies.Greedy.{greedyRule}
@@ -83,7 +83,7 @@ module _ (room : ℕ) (beta : Beta) where
         }
     fed-same last now queue port (s ∷ slots) [] C same ok comes = absurd (omega arith)
     fed-same last now queue port (s ∷ slots) (v ∷ values) C same ok comes =
-        let a : Arrival = record { slot = slotAt s; packet = record { number = record { 0 = suc last }; value = v } } in
+        let a : Arrival = record { slot = slotAt s; packet = packetOf (suc last) v } in
         let gap = slotsUntil (slotAt now) (a .slot) in
         let E = ends-same last gap now queue port C in
         let before = endsFed gap (slotAt now) port in

@@ -7,7 +7,6 @@ use mathlib.Core.List.{List, [], _∷_, _++_, flatMap}
 use lib.ListN.{length}
 use lib.Dec.{eqb}
 use Rattle.model.specs.declared.Slot.{Slot}
-use Rattle.model.specs.declared.Packet.{Packet}
 use Rattle.model.specs.declared.Beta.{Beta}
 use Rattle.model.specs.declared.Cause.{Cause}
 use Rattle.model.specs.declared.Fate.the-variants as fates
@@ -15,7 +14,7 @@ use Rattle.model.specs.declared.LossKind.the-variants as kinds
 use Rattle.model.specs.declared.ArrivalAnswer.the-variants as arrival
 use Rattle.model.specs.declared.SlotAnswer.the-variants as slot
 use Rattle.model.specs.declared.MakingAnswer.the-variants as making
-use Rattle.model.specs.Packets.{Arrival, arrivals, slotsUntil, following}
+use Rattle.model.specs.Packets.{packetOf, Arrival, arrivals, slotsUntil, following}
 use Rattle.model.specs.Record.{Entry, Lists, fateNumber, sentAt, rejectedAt, lostTo, recordOf}
 use Rattle.model.specs.Course.{first}
 use Rattle.model.specs.Policies.PG.{pgRun}
@@ -137,16 +136,13 @@ RefusalSeen =
     × ((soundRefusal (sound port) .number ≡ 0 → ⊥) → Refuses (endOfSlotCall port .reply)))
 
 -- a feed by hand: one packet in slot 1 and one in slot 4. Slots 2 and 3 are ended too, and are idle
-abbrev pub packet : ℕ → ℕ → Packet
-packet number value = record { number = record { 0 = number }; value = value }
-
 abbrev pub FedByHand : Type 0
 FedByHand =
     fed (1 ∷ 4 ∷ []) (5 ∷ 7 ∷ []) 2 (record { num = 3; den = 1 }) .calls
     ≡ arrives (record { 0 = 1 }) 5 (ofArrival (arrival.Held (record { 0 = 1 })))
-    ∷ ends (record { 0 = 1 }) (ofSlot (slot.Sent (packet 1 5)))
+    ∷ ends (record { 0 = 1 }) (ofSlot (slot.Sent (packetOf 1 5)))
     ∷ ends (record { 0 = 2 }) (ofSlot slot.Idle)
     ∷ ends (record { 0 = 3 }) (ofSlot slot.Idle)
     ∷ arrives (record { 0 = 4 }) 7 (ofArrival (arrival.Held (record { 0 = 2 })))
-    ∷ ends (record { 0 = 4 }) (ofSlot (slot.Sent (packet 2 7)))
+    ∷ ends (record { 0 = 4 }) (ofSlot (slot.Sent (packetOf 2 7)))
     ∷ []
