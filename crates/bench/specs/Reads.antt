@@ -1,4 +1,5 @@
 -- What the program makes of its reads.
+use Prim.Native.Nat.{ℕ}
 use mathlib.Core.List.{List}
 use Rattle.input.specs.Reads.{Output, Overlong}
 use Rattle.text.specs.Bench.{benchOutput}
