@@ -2,15 +2,13 @@
 // input is as long as a line's number can count, which no input is.
 ghost use Prim.Native.Nat.{_≤_};
 ghost use lib.ListN.{length};
-ghost use Rattle.text.specs.Says.{outputLimit};
+ghost use Rattle.output.specs.Output.{outputLimit};
 ghost use Rattle.bench.specs.Reads.{ToldBy};
 use input::Ended;
 use libc::STDOUT_FILENO;
-use text::OUTPUT;
+use output::OUTPUT;
+use signs::TRACE;
 use text::TABLE;
-
-// The header of the input.
-const HEADER: [u8; 10] = *b"slot,value";
 
 // What there is to say: so many bytes to write, or nothing, where a read failed or the input was longer than can be counted.
 enum Told {
@@ -25,7 +23,7 @@ fn answer_input(out: &mut [u8]) -> Told
     ensures { λ r. ⌜ ToldBy r (now (out .exit)) ⌝ }
 {
     let mut table = [0u32; TABLE];
-    match input::read_rows(&HEADER, &mut table) {
+    match input::read_rows(&TRACE, &mut table) {
         Ended::Read(read) => {
             let n = text::answer(read, &table, out);
             Told::Answered(n)

@@ -8,7 +8,6 @@ use model::AuditAnswer;
 use model::RunAnswer;
 use model::Tally;
 use model::Totals;
-use totals::none;
 
 fn put_tally(list: &mut [u32], place: usize, tally: Tally)
     requires { ⌜ place < 12 ⌝ }
@@ -64,7 +63,7 @@ pub fn say_audit(answer: AuditAnswer, totals: &mut [u32]) -> u64
             0
         }
         AuditAnswer::Faulty(first) => {
-            tell(totals, none());
+            tell(totals, Totals::none());
             let fault = first.fault;
             let packet = first.packet;
             code(fault.number(), packet.0)

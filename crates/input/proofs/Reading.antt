@@ -13,7 +13,7 @@ use Rattle.rows.specs.Whole.{textOf, fed, readAll}
 use Rattle.rows.proofs.Whole.{whole}
 use Rattle.input.specs.declared.Piece.{Piece}
 use Rattle.input.specs.declared.Piece.the-variants as piece
-use Rattle.input.specs.Reads.{ReadOnce, toEnd, ReadToEnd, Stopped, Overlong, mostBytes}
+use Rattle.input.specs.Reads.{ReadOnce, toEnd, ReadToEnd, Stopped, StoppedLong, Overlong, mostBytes}
 
 pub record SoFar (header : List ℕ) (start now : State) (left : ℕ) : Type 0 where
   pub pieces : List (List ℕ)
@@ -108,8 +108,12 @@ read-failed table′ bytes before is once = let same = rw is at once in rw same 
 
 -- more than can be counted
 pub read-much : {header table table₀ : List ℕ} {parser : Parser} {left : ℕ}
-    → SoFar header (state (startParser header) table₀) (state parser table) left → left ≡ 0 → Overlong header table₀ table
+    → SoFar header (state (startParser header) table₀) (state parser table) left → left ≡ 0 → StoppedLong header table₀ table
 unfolding textOf stopped-at
 read-much before done =
     let much = before .many in
     record { stopped = stopped-at before; many = omega (arith, before .bytes []) }
+
+-- more than can be counted
+pub too-long : {header table table′ : List ℕ} → StoppedLong header table table′ → Overlong
+too-long much = record { pieces = much .stopped .pieces; many = much .many }

@@ -46,7 +46,7 @@ abbrev pub mostBytes : ℕ
 mostBytes = 2 ^ 64 - 3
 
 -- the reads handed over as many bytes as that, or more
-pub record Overlong (header table table′ : List ℕ) : Type 0 where
+pub record StoppedLong (header table table′ : List ℕ) : Type 0 where
   pub stopped : Stopped header table table′
   pub many : mostBytes ≤ length (textOf (stopped .pieces))
 
@@ -54,4 +54,17 @@ pub record Overlong (header table table′ : List ℕ) : Type 0 where
 abbrev pub EndedBy : List ℕ → Ended → List ℕ → List ℕ → Type 0
 EndedBy header (ended.Read said) table table′ = ReadToEnd header said table table′
 EndedBy header ended.Failed table table′ = Stopped header table table′
-EndedBy header ended.TooLong table table′ = Overlong header table table′
+EndedBy header ended.TooLong table table′ = StoppedLong header table table′
+
+-- the same of a program that answers its input. The first n bytes of the list are the output for the bytes that the reads handed over, however they were
+-- cut into pieces
+pub record Output (outputOf : List ℕ → List ℕ) (n : ℕ) (out : List ℕ) : Type 0 where
+  pub inside : n ≤ length out
+  pub pieces : List (List ℕ)
+  pub whole : toEnd pieces ≡ true
+  pub output : take n out ≡ outputOf (textOf pieces)
+
+-- the reads handed over as many bytes as are read at most, or more
+pub record Overlong : Type 0 where
+  pub pieces : List (List ℕ)
+  pub many : mostBytes ≤ length (textOf pieces)

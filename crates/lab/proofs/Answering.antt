@@ -1,17 +1,19 @@
 -- Each command reads its own columns of the table.
-use Prim.Native.Nat.{ℕ, _+_, _-_, _*_, _≤_}
-use mathlib.Core.Path.{_≡_, refl, sym, ap, ap₂, _∙_}
-use mathlib.Core.List.{List, []}
+use Prim.Native.Nat.{ℕ, _+_, _-_, _≤_}
+use mathlib.Core.Path.{_≡_, refl, sym, ap, _∙_}
+use mathlib.Core.List.{List}
 use native.Mathlib.Omega.{arith}
 use lib.ListN.{length, take, drop, length-drop}
 use lib.Seq.{length-take-le}
 use Rattle.model.specs.Record.{listsOf}
+use Rattle.output.specs.Output.{outputLimit}
 use Rattle.output.specs.Writing.{Wrote}
 use Rattle.output.proofs.Writing.{wrote-same}
-use Rattle.lab.specs.declared.policy.Policy.{Policy}
+use Rattle.text.specs.declared.Policy.{Policy}
 use Rattle.lab.specs.declared.jobs.Job.{Job}
 use Rattle.lab.specs.declared.jobs.Job.the-variants.{Run, Table, Audit, None}
-use Rattle.lab.specs.Run.{runText}
+use Rattle.text.specs.Run.{runText, runSpoken}
+use Rattle.text.proofs.Policies.{spoken-all}
 use Rattle.lab.specs.Table.{tableText}
 use Rattle.lab.specs.Audit.{auditText}
 use Rattle.lab.specs.Answer.{answerText, columnsIn}
@@ -36,10 +38,11 @@ module _ (rows : List ℕ) (count : ℕ) where
     answer-is : (job′ : Job) → job ≡ job′ → answerText job′ nums dens (columnsIn rows count) ≡ answer
     answer-is job′ is = ap (λ (j : Job). answerText j nums dens (columnsIn rows count)) (sym is)
 
-    pub answer-run : {policy : Policy} {room n : ℕ} {out out′ : List ℕ} → job ≡ Run policy room
-        → Wrote 0 (runText policy room (take count rows) (part 2048)) out n out′ → Begins n answer out′
-    answer-run {policy} {room} is W =
-        begins (wrote-same (ap (runText policy room (take count rows)) (part-is 2048) ∙ answer-is (Run policy room) is) refl W)
+    pub answer-run : {policy : Policy} {room n : ℕ} {out out′ : List ℕ} → job ≡ Run policy room → outputLimit ≤ length out
+        → Wrote 0 (runSpoken policy room (take count rows) (part 2048) out) out n out′ → Begins n answer out′
+    answer-run {policy} {room} {out = out} is long W =
+        let spoken = sym (spoken-all policy room (take count rows) (part 2048) out long) in
+        begins (wrote-same (spoken ∙ ap (runText policy room (take count rows)) (part-is 2048) ∙ answer-is (Run policy room) is) refl W)
 
     pub answer-table : {room n : ℕ} {out : List ℕ} → job ≡ Table room → Begins n (tableText room nums dens (take count rows) (part 2048)) out
         → Begins n answer out

@@ -1,17 +1,16 @@
 -- Jobs: the betas that are left tell what all do; and each argument more is a word more in the three lists.
-use Prim.Native.Nat.{ℕ, zero, suc, _+_, _-_, _≤_, _<_}
+use Prim.Native.Nat.{ℕ, _+_, _-_, _≤_, _<_}
 use mathlib.Core.Path.{_≡_, refl, sym, ap, ap₂, _∙_}
-use mathlib.Core.Bool.{Bool, true, false, _&&_}
+use mathlib.Core.Bool.{Bool, true, false}
 use mathlib.Core.List.{List, [], _∷_, _++_, map}
 use native.Mathlib.Numerals.{add-one}
 use native.Mathlib.Omega.{arith}
 use lib.ListN.{length, getD, take, drop, set, length-take, length-drop, drop-of-length-le}
-use lib.Seq.{drop-cons, take-all, take-suc-set, length-take-le}
-use lib.Dec.{eqb}
+use lib.Seq.{drop-cons, take-all, take-suc-set}
 use borrow.Author.Tests.{eq-eqb, ne-eqb}
 use Rattle.field.specs.Fields.{same}
-use Rattle.lab.specs.Words.{kinds, wordOf}
-use Rattle.lab.specs.Jobs.{allBetas, isTable, kindsOf, firstsOf, secondsOf, Heard}
+use Rattle.lab.specs.Words.{wordOf}
+use Rattle.lab.specs.Jobs.{allBetas, isTable, Heard}
 use Rattle.lab.proofs.Wording.{same-lengths}
 
 module _ (words : List ℕ) (i : ℕ) where

@@ -1,47 +1,28 @@
--- What the audit says of its answer's case; and the numbers of the rows: those that are left tell what all do.
+-- What the audit says, by its number; and the numbers of the rows: those that are left tell what all do.
 use Prim.Native.Nat.{ℕ, suc, _+_, _≤_, _<_}
-use mathlib.Core.Path.{_≡_, refl, sym, ap, _∙_}
-use mathlib.Core.Bool.{false}
-use mathlib.Core.List.{List, [], _∷_, _++_}
+use mathlib.Core.Path.{_≡_, refl, sym, _∙_}
+use mathlib.Core.List.{List, _++_}
 use native.Mathlib.Numerals.{add-one}
 use native.Mathlib.Omega.{arith}
 use lib.ListN.{length, getD, drop, drop-of-length-le}
 use lib.Seq.{drop-cons}
-use lib.Dec.{eqb}
 use borrow.Author.Tests.{eq-eqb, ne-eqb}
 use Rattle.model.specs.declared.Cause.the-variants.{Text}
-use Rattle.model.specs.declared.Refusal.{Refusal}
-use Rattle.model.specs.declared.Fault.{Fault}
-use Rattle.model.specs.declared.Fault.the-variants as faults
-use Rattle.model.specs.declared.FirstFault.{FirstFault}
-use Rattle.model.specs.declared.Totals.{Totals}
 use Rattle.model.specs.declared.AuditAnswer.{AuditAnswer}
-use Rattle.model.specs.declared.AuditAnswer.the-variants.{Passed, Faulty, Refused}
 use Rattle.model.specs.Record.{Lists}
-use Rattle.model.specs.Numbers.{causeNumber, faultNumber}
+use Rattle.model.specs.Numbers.{causeNumber}
 use Rattle.model.specs.Answers.{Reply, ofAudit}
 use Rattle.model.specs.Calls.{auditCall}
-use Rattle.trace.proofs.Laws.{cause-refuses}
 use Rattle.output.specs.Output.{lineWith, refusalText}
 use Rattle.lab.specs.Line.{countsOf}
 use Rattle.lab.specs.Audit.{misnumberedFrom, auditHeader, verdictText, auditText}
 
-fault-found : (fault : Fault) → eqb (faultNumber fault) 0 ≡ false
-fault-found faults.FateOutside = refl
-fault-found faults.ByWrong = refl
-fault-found faults.WhenWrong = refl
-fault-found faults.NotLater = refl
-fault-found faults.OverRoom = refl
+module _ (answer : AuditAnswer) {verdict reply : Reply} (is : ofAudit answer ≡ verdict) (replies : reply ≡ ofAudit answer) where
+  pub verdict-some : (reply .number ≡ 0 → ⊥) → refusalText (reply .number) (reply .place) ≡ verdictText verdict
+  verdict-some some = rw (← is, ← replies, ne-eqb (reply .number) 0 some) refl
 
-module _ (answer : AuditAnswer) (reply : Reply) (is : ofAudit answer ≡ reply) where
-  pub verdict-refused : (f : Refusal) → answer ≡ Refused f → refusalText (causeNumber (f .cause)) (f .place) ≡ verdictText reply
-  verdict-refused f e = rw (← is, e, cause-refuses (f .cause)) refl
-
-  pub verdict-faulty : (f : FirstFault) → answer ≡ Faulty f → refusalText (faultNumber (f .fault)) (f .packet .0) ≡ verdictText reply
-  verdict-faulty f e = rw (← is, e, fault-found (f .fault)) refl
-
-  pub verdict-passed : (t : Totals) → answer ≡ Passed t → auditHeader ++ lineWith (countsOf t) ≡ verdictText reply
-  verdict-passed t e = rw (← is, e) refl
+  pub verdict-passed : reply .number ≡ 0 → auditHeader ++ lineWith (countsOf (reply .totals)) ≡ verdictText verdict
+  verdict-passed none = rw (← is, ← replies, none) refl
 
 module _ (numbers : List ℕ) (i : ℕ) where
   abbrev pub Numbered : Type 0

@@ -14,10 +14,10 @@ use Rattle.model.specs.declared.Totals.{Totals}
 use Rattle.signs.specs.Signs.{cr, lf, comma}
 use Rattle.output.specs.Output.{decimal}
 use Rattle.output.specs.Writing.{Wrote, Put}
-use Rattle.output.proofs.Writing.{Left, left-byte, left-wrote, left-none, wrote-same, wrote-both, decimal-length}
+use Rattle.output.proofs.Writing.{Left, left-byte, left-wrote, wrote-both, decimal-length}
 use Rattle.model.specs.declared.Marking.{Marking}
-use Rattle.lab.specs.declared.policy.Policy.{Policy}
-use Rattle.lab.specs.declared.policy.Policy.the-variants.{Greedy, Pg, Mf, Plan}
+use Rattle.text.specs.declared.Policy.{Policy}
+use Rattle.text.specs.declared.Policy.the-variants.{Greedy, Pg, Mf, Plan}
 use Rattle.lab.specs.Line.{space, slash, nameOf, countsOf, behindCommas, thousandths, partOf, lineOf}
 
 pub record Near (most at : ℕ) (text out : List ℕ) (next : ℕ) (out′ : List ℕ) : Type 0 where

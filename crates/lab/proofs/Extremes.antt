@@ -1,5 +1,5 @@
 -- The lowest and the greatest value: what a loop has found so far, and the values that are left, give that of all.
-use Prim.Native.Nat.{ℕ, zero, suc, _+_, _<_, _≤_, min, max}
+use Prim.Native.Nat.{ℕ, _+_, _<_, _≤_, min, max}
 use mathlib.Core.Path.{_≡_, refl, sym, ap, _∙_}
 use mathlib.Core.List.{List, [], _∷_}
 use native.Mathlib.Numerals.{add-one}

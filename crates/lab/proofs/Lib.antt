@@ -1,5 +1,4 @@
 -- Laws on plain values, for the proofs of this crate.
-pub mod Policies
 pub mod Chain
 pub mod Tables
 pub mod Audits

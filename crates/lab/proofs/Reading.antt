@@ -12,6 +12,7 @@ use borrow.Author.Tests.{ltb-false}
 use Rattle.model.specs.declared.Cause.the-variants.{Packets}
 use Rattle.model.specs.Limits.{recordLimits}
 use Rattle.model.specs.Numbers.{causeNumber}
+use Rattle.signs.specs.Signs.{traceHeader, recordHeader}
 use Rattle.field.specs.Fields.{fieldsOf, lettered, same}
 use Rattle.rows.specs.declared.Rows.{Rows}
 use Rattle.rows.specs.declared.Rows.the-variants.{TooMany, Read}
@@ -19,18 +20,18 @@ use Rattle.rows.specs.Input.{Input, malformed, rows, columnsOf, columnOf, input
 use Rattle.rows.specs.Table.{columnIn}
 use Rattle.rows.specs.Whole.{allLettered, HeaderOfLetters, textOf, saidOf, Stands, Tells}
 use Rattle.input.specs.declared.Ended.{Ended}
-use Rattle.input.specs.Reads as reads
-use Rattle.input.specs.Reads.{toEnd, ReadToEnd, EndedBy}
+use Rattle.input.specs.Reads.{toEnd, ReadToEnd, EndedBy, StoppedLong, Output, Overlong}
+use Rattle.input.proofs.Reading as reads
 use Rattle.output.specs.Output.{refusalText}
 use Rattle.lab.specs.declared.Told.the-variants.{Answered}
 use Rattle.lab.specs.declared.jobs.Job.{Job}
 use Rattle.lab.specs.declared.jobs.Job.the-variants.{Run, Table, Audit, None}
-use Rattle.lab.specs.Run.{runText}
+use Rattle.text.specs.Run.{runText}
 use Rattle.lab.specs.Table.{tableText}
 use Rattle.lab.specs.Jobs.{isTable, jobFrom}
-use Rattle.lab.specs.Answer.{columnsIn, answerText, traceHeader, auditedHeader, headerOf, inputText, labOutput}
+use Rattle.lab.specs.Answer.{columnsIn, answerText, headerOf, inputText, labOutput}
 use Rattle.lab.specs.Writing.{Begins}
-use Rattle.lab.specs.Told.{placesOf, ReadFor, Few, readText, Output, Overlong, ToldBy}
+use Rattle.lab.specs.Told.{placesOf, ReadFor, Few, readText, wordsOutput, ToldBy}
 
 letters : (job : Job) → HeaderOfLetters (headerOf job)
 unfolding allLettered lettered fieldsOf
@@ -47,13 +48,13 @@ places-fit (Audit room) = omega arith
 places-fit None = omega arith
 
 -- the audit reads into all of the table, and each other job into its first two columns
-of-record : (r : Ended) (room : ℕ) (table table′ : List ℕ) → EndedBy auditedHeader r (take 12288 table) (take 12288 table′)
+of-record : (r : Ended) (room : ℕ) (table table′ : List ℕ) → EndedBy recordHeader r (take 12288 table) (take 12288 table′)
     → ReadFor (Audit room) r table table′
 unfolding fieldsOf
 of-record r room table table′ by = by
 
 pub read-record : (job : Job) {room : ℕ} → job ≡ Audit room → (r : Ended) (table table′ : List ℕ) → length table ≡ 12288 → length table′ ≡ 12288
-    → EndedBy auditedHeader r table table′ → ReadFor job r table table′
+    → EndedBy recordHeader r table table′ → ReadFor job r table table′
 read-record job {room} is r table table′ size size′ by =
     let all = take-all 12288 table (omega arith) in
     let all′ = take-all 12288 table′ (omega arith) in
@@ -152,7 +153,7 @@ module _ (job : Job) {read : Rows} (table table′ : List ℕ) where
 -- what was read is answered
 pub answered : (job : Job) (words firsts seconds table table′ : List ℕ) {read : Rows} → job ≡ jobFrom words firsts seconds → (job ≡ None → ⊥)
     → length table ≡ 12288 → ReadToEnd (headerOf job) read (take (placesOf job) table) (take (placesOf job) table′) → {n : ℕ} {out : List ℕ}
-    → Begins n (readText job (drop 2 firsts) (drop 2 seconds) read table′) out → Output words firsts seconds n out
+    → Begins n (readText job (drop 2 firsts) (drop 2 seconds) read table′) out → Output (wordsOutput words firsts seconds) n out
 answered job words firsts seconds table table′ is some size ended B =
     let nums = drop 2 firsts in
     let dens = drop 2 seconds in
@@ -171,7 +172,7 @@ answered job words firsts seconds table table′ is some size ended B =
     }
 
 -- words that ask for nothing
-pub nothing-asked : (job : Job) (words firsts seconds out : List ℕ) → job ≡ jobFrom words firsts seconds → job ≡ None → Output words firsts seconds 0 out
+pub nothing-asked : (job : Job) (words firsts seconds out : List ℕ) → job ≡ jobFrom words firsts seconds → job ≡ None → Output (wordsOutput words firsts seconds) 0 out
 unfolding labOutput toEnd
 nothing-asked job words firsts seconds out is none =
     record { inside = omega arith; pieces = [] ∷ []; whole = refl; output = rw (← is, none) refl }
@@ -181,5 +182,5 @@ unfolding jobFrom isTable same
 told-strange out = record { arguments = []; told = nothing-asked None [] [] [] out refl refl }
 
 -- more than can be counted
-pub too-long : (job : Job) (table table′ : List ℕ) → reads.Overlong (headerOf job) (take (placesOf job) table) (take (placesOf job) table′) → Overlong
-too-long job table table′ much = record { pieces = much .stopped .pieces; many = much .many }
+pub too-long : (job : Job) (table table′ : List ℕ) → StoppedLong (headerOf job) (take (placesOf job) table) (take (placesOf job) table′) → Overlong
+too-long job table table′ much = reads.too-long much

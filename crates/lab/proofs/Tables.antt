@@ -1,13 +1,13 @@
 -- The lines of a table: those of some policies are those of the first and then those of the others, or the first refusal. A line is at most 239 bytes
 -- long, so the number of lines bounds the place behind them.
-use Prim.Native.Nat.{ℕ, zero, suc, _+_, _*_, _≤_, _<_, min, max}
+use Prim.Native.Nat.{ℕ, suc, _+_, _*_, _≤_, _<_}
 use mathlib.Core.Path.{_≡_, refl, sym, ap, ap₂, _∙_}
 use mathlib.Core.Bool.{Bool, true, false, cond}
-use mathlib.Core.List.{List, [], _∷_, _++_, append-nil}
+use mathlib.Core.List.{List, [], _∷_, append-nil}
 use native.Mathlib.Numerals.{add-one}
 use native.Mathlib.Omega.{arith}
 use lib.ListN.{length, getD, take, drop, length-append, drop-of-length-le}
-use lib.Seq.{drop-cons, take-at, sets, sets-eq}
+use lib.Seq.{drop-cons, take-at, sets-eq}
 use lib.Dec.{eqb}
 use Rattle.laws.proofs.Cases.{cond-cases}
 use Rattle.model.specs.declared.Refusal.{Refusal}
@@ -18,13 +18,13 @@ use Rattle.model.specs.Numbers.{causeNumber}
 use Rattle.model.specs.Answers.{Reply, ofRun}
 use Rattle.trace.proofs.Laws.{cause-refuses}
 use Rattle.output.specs.Output.{refusalText}
-use Rattle.output.specs.Writing.{Wrote, Put}
+use Rattle.output.specs.Writing.{Wrote}
 use Rattle.output.proofs.Writing.{wrote-same, wrote-both}
-use Rattle.lab.specs.declared.policy.Policy.{Policy}
-use Rattle.lab.specs.declared.policy.Policy.the-variants.{Greedy, Pg, Mf, Plan}
+use Rattle.text.specs.declared.Policy.{Policy}
+use Rattle.text.specs.declared.Policy.the-variants.{Greedy, Pg, Mf, Plan}
 use Rattle.lab.specs.declared.table.Lined.{Lined}
 use Rattle.lab.specs.declared.table.Lined.the-variants as lined
-use Rattle.lab.specs.Run.{replyOf}
+use Rattle.text.specs.Run.{replyOf}
 use Rattle.lab.specs.Line.{lineOf}
 use Rattle.lab.specs.Table.{lowest, greatestFrom, Lines, refused, written, behind, lineUnless, linesOf, betasOf, mfLine, traceMf, tableHeader, tableBy, tableWith, tableText}
 use Rattle.lab.specs.Writing.{Begins, LinedAs}

@@ -1,7 +1,7 @@
 -- Words: each loop keeps that what is left of the bytes tells what all do.
 use Prim.Native.Nat.{ℕ, zero, suc, _+_, _-_, _*_, _≤_, _<_}
-use mathlib.Core.Path.{_≡_, refl, sym, ap, ap₂, _∙_}
-use mathlib.Core.Bool.{Bool, true, false, cond, _&&_}
+use mathlib.Core.Path.{_≡_, refl, sym, ap, _∙_}
+use mathlib.Core.Bool.{Bool, true, false, _&&_}
 use mathlib.Core.List.{List, [], _∷_}
 use native.Mathlib.Nat.{add-zero}
 use native.Mathlib.Numerals.{add-one}
@@ -16,7 +16,7 @@ use Rattle.lab.specs.declared.words.Number.{Number}
 use Rattle.lab.specs.declared.words.Number.the-variants.{Is, Not}
 use Rattle.lab.specs.declared.words.Word.{Word}
 use Rattle.lab.specs.Line.{slash}
-use Rattle.lab.specs.Words.{kinds, word, nameIn, numberIn, slashAt, betaBy, betaIn, numberOr, wordOf}
+use Rattle.lab.specs.Words.{kinds, word, nameIn, numberIn, slashAt, betaBy, betaIn, wordOf}
 
 -- two lists of bytes
 pub same-lengths : (a b : List ℕ) → (length a ≡ length b → ⊥) → false ≡ same a b

@@ -1,17 +1,24 @@
 -- What the arguments ask for.
-use Prim.Native.Nat.{ℕ, _≤_}
+use Prim.Native.Nat.{ℕ, _+_, _≤_}
 use mathlib.Core.Path.{_≡_}
 use mathlib.Core.Bool.{Bool, true, cond, _&&_}
 use mathlib.Core.List.{List, [], _∷_, map}
 use lib.ListN.{getD, take, drop}
 use lib.Dec.{eqb}
 use Rattle.field.specs.Fields.{same}
-use Rattle.lab.specs.declared.policy.Policy.the-variants.{Greedy, Pg, Mf, Plan}
+use Rattle.text.specs.declared.Policy.the-variants.{Greedy, Pg, Mf, Plan}
 use Rattle.lab.specs.declared.jobs.Job.{Job}
 use Rattle.lab.specs.declared.jobs.Job.the-variants.{Run, Table, Audit, None}
 use Rattle.lab.specs.declared.arguments.Arguments.{Arguments}
 use Rattle.lab.specs.declared.arguments.Arguments.the-variants.{Words, Strange}
 use Rattle.lab.specs.Words.{kinds, wordOf}
+
+-- the most betas of a table, and the most words of a command: a table's name, its room and its betas
+abbrev pub mostBetas : ℕ
+mostBetas = 32
+
+abbrev pub mostWords : ℕ
+mostWords = 2 + mostBetas
 
 unfoldable pub allBetas : List ℕ → Bool
 allBetas [] = true
@@ -56,5 +63,5 @@ pub record Heard (count : ℕ) (words firsts seconds : List ℕ) : Type 0 where
 
 -- how reading them ended: with so many words, or with arguments that are none of ours
 abbrev pub HeardAs : Arguments → List ℕ → List ℕ → List ℕ → Type 0
-HeardAs (Words count) words firsts seconds = (count ≤ 34) × Heard count words firsts seconds
+HeardAs (Words count) words firsts seconds = (count ≤ mostWords) × Heard count words firsts seconds
 HeardAs Strange words firsts seconds = Unit {0}

@@ -1,5 +1,4 @@
 -- The lab program: what it says of a job and its input.
-pub mod Run
 pub mod Line
 pub mod Table
 pub mod Audit

@@ -6,8 +6,8 @@ use lib.Dec.{eqb}
 use Rattle.model.specs.declared.Totals.{Totals}
 use Rattle.signs.specs.Signs.{cr, lf, comma}
 use Rattle.output.specs.Output.{decimal}
-use Rattle.lab.specs.declared.policy.Policy.{Policy}
-use Rattle.lab.specs.declared.policy.Policy.the-variants.{Greedy, Pg, Mf, Plan}
+use Rattle.text.specs.declared.Policy.{Policy}
+use Rattle.text.specs.declared.Policy.the-variants.{Greedy, Pg, Mf, Plan}
 
 abbrev pub space : ℕ
 space = 32

@@ -7,9 +7,9 @@ use Rattle.model.specs.declared.Totals.{Totals}
 use Rattle.model.specs.Answers.{Reply}
 use Rattle.signs.specs.Signs.{cr, lf}
 use Rattle.output.specs.Output.{refusalText}
-use Rattle.lab.specs.declared.policy.Policy.{Policy}
-use Rattle.lab.specs.declared.policy.Policy.the-variants.{Greedy, Pg, Mf, Plan}
-use Rattle.lab.specs.Run.{replyOf}
+use Rattle.text.specs.declared.Policy.{Policy}
+use Rattle.text.specs.declared.Policy.the-variants.{Greedy, Pg, Mf, Plan}
+use Rattle.text.specs.Run.{replyOf}
 use Rattle.lab.specs.Line.{lineOf}
 
 -- the lines of some policies, or the refusal of the first that is refused

@@ -1,19 +1,15 @@
--- What the program makes of its arguments and of its reads. A piece is what one read handed over; the kit has no name for the arguments and for what
--- stands on standard input, so both are some list of lists.
+-- What the program makes of its arguments and of its reads.
 use Prim.Native.Nat.{ℕ, _*_, _≤_}
-use mathlib.Core.Path.{_≡_}
-use mathlib.Core.Bool.{true}
 use mathlib.Core.List.{List}
-use lib.ListN.{length, take, drop}
+use lib.ListN.{take, drop}
 use Rattle.model.specs.declared.Cause.the-variants.{Packets, Text}
 use Rattle.model.specs.Limits.{recordLimits}
 use Rattle.model.specs.Numbers.{causeNumber}
 use Rattle.rows.specs.declared.Rows.{Rows}
 use Rattle.rows.specs.declared.Rows.the-variants.{Malformed, TooMany, Read}
 use Rattle.rows.specs.Input.{columnsOf, inputOf}
-use Rattle.rows.specs.Whole.{textOf}
 use Rattle.input.specs.declared.Ended.{Ended}
-use Rattle.input.specs.Reads.{toEnd, mostBytes, EndedBy}
+use Rattle.input.specs.Reads.{EndedBy, Output, Overlong}
 use Rattle.output.specs.Output.{refusalText}
 use Rattle.lab.specs.declared.Told.{Told}
 use Rattle.lab.specs.declared.Told.the-variants.{Answered, Failed, TooLong}
@@ -41,28 +37,16 @@ readText job nums dens (Malformed line) table = refusalText (causeNumber Text) l
 readText job nums dens TooMany table = refusalText (causeNumber Packets) 0
 readText job nums dens (Read count) table = answerText job nums dens (columnsIn table count)
 
--- the output for some words and a text; a table's betas are the words behind its room
+-- the output for some words and a text; a table's betas are the words behind its room. Words that ask for nothing get nothing, whatever the text is: then
+-- nothing is read
 abbrev pub wordsOutput : (words firsts seconds text : List ℕ) → List ℕ
 wordsOutput words firsts seconds text =
     let job = jobFrom words firsts seconds in
     labOutput job (drop 2 firsts) (drop 2 seconds) (inputOf (headerOf job) text)
 
--- the first n bytes of the list are the output of the words and of the bytes that the reads handed over, however they were cut into pieces. Words that
--- ask for nothing get nothing, whatever the pieces are: then nothing is read
-pub record Output (words firsts seconds : List ℕ) (n : ℕ) (out : List ℕ) : Type 0 where
-  pub inside : n ≤ length out
-  pub pieces : List (List ℕ)
-  pub whole : toEnd pieces ≡ true
-  pub output : take n out ≡ wordsOutput words firsts seconds (textOf pieces)
-
--- the reads handed over as many bytes as are read at most, or more
-pub record Overlong : Type 0 where
-  pub pieces : List (List ℕ)
-  pub many : mostBytes ≤ length (textOf pieces)
-
 -- how answering some words ended
 abbrev pub ToldOf : (words firsts seconds : List ℕ) → Told → List ℕ → Type 0
-ToldOf words firsts seconds (Answered n) out = Output words firsts seconds n out
+ToldOf words firsts seconds (Answered n) out = Output (wordsOutput words firsts seconds) n out
 ToldOf words firsts seconds TooLong out = Overlong
 ToldOf words firsts seconds Failed out = Unit {0}
 

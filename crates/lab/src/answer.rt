@@ -3,13 +3,15 @@ ghost use mathlib.Core.Path.{_≡_};
 ghost use Prim.Native.Nat.{_≤_};
 ghost use lib.ListN.{length};
 ghost use Rattle.model.specs.Limits.{recordLimits};
-ghost use Rattle.lab.specs.Answer.{outputLimit, columnsIn, answerText};
+ghost use Rattle.output.specs.Output.{outputLimit};
+ghost use Rattle.lab.specs.Jobs.{mostBetas};
+ghost use Rattle.lab.specs.Answer.{recordPlaces, columnsIn, answerText};
 ghost use Rattle.lab.specs.Writing.{BeginsIn};
 use crate::auditing::check;
 use crate::jobs::Job;
-use crate::run::run;
 use crate::table::table;
 use model::Record;
+use text::run;
 
 // The starts of the columns behind the first.
 const SECOND: usize = Record::PACKETS;
@@ -31,8 +33,8 @@ pub fn answer(
     out: &mut [u8],
 ) -> usize
     requires { ⌜ length (now dens) ≡ length (now nums) ⌝ }
-    requires { ⌜ length (now nums) ≤ 32 ⌝ }
-    requires { ⌜ length (now rows) ≡ 12288 ⌝ }
+    requires { ⌜ length (now nums) ≤ mostBetas ⌝ }
+    requires { ⌜ length (now rows) ≡ recordPlaces ⌝ }
     requires { ⌜ count ≤ recordLimits .packets ⌝ }
     requires { ⌜ outputLimit ≤ length (now out) ⌝ }
     ensures { λ r. ⌜ BeginsIn out r (answerText job (now (nums .entry)) (now (dens .entry)) (columnsIn (now (rows .entry)) count)) ⌝ }

@@ -1,11 +1,11 @@
 // The program's arguments as words, in three lent lists.
 ghost use mathlib.Core.Path.{_≡_};
 ghost use lib.ListN.{length};
-ghost use Rattle.lab.specs.Jobs.{HeardAs};
+ghost use Rattle.lab.specs.Jobs.{mostWords, HeardAs};
 use crate::words::word_of;
 
 // The most words: a command, its room and 32 betas.
-const WORDS: usize = 34;
+pub const WORDS: usize = 34;
 
 // The most bytes of a word.
 const BYTES: usize = 24;
@@ -17,9 +17,9 @@ pub enum Arguments {
 }
 
 pub fn read_words(words: &mut [u8], firsts: &mut [u32], seconds: &mut [u32]) -> Arguments
-    requires { ⌜ length (now words) ≡ 34 ⌝ }
-    requires { ⌜ length (now firsts) ≡ 34 ⌝ }
-    requires { ⌜ length (now seconds) ≡ 34 ⌝ }
+    requires { ⌜ length (now words) ≡ mostWords ⌝ }
+    requires { ⌜ length (now firsts) ≡ mostWords ⌝ }
+    requires { ⌜ length (now seconds) ≡ mostWords ⌝ }
     ensures { λ r. ⌜ HeardAs r (now (words .exit)) (now (firsts .exit)) (now (seconds .exit)) ⌝ }
 {
     let all = os::arg_count();

@@ -8,8 +8,6 @@ ghost use Rattle.model.specs.Lent.{listsBefore};
 ghost use Rattle.output.specs.Writing.{WroteIn};
 ghost use Rattle.lab.specs.Audit.{misnumberedFrom, verdictText, auditText};
 use crate::line::counts_of;
-use crate::refusal::refuse;
-use model::AuditAnswer;
 use model::Cause;
 use output::put;
 use output::put_line;
@@ -45,18 +43,13 @@ fn say(
     requires { ⌜ 209 ≤ length (now out) ⌝ }
     ensures { λ r. ⌜ WroteIn out r 0 (verdictText (auditCall (now (slots .entry)) (now (values .entry)) room (listsBefore fates whens bys))) ⌝ }
 {
-    match audit::audit(slots, values, room, fates, whens, bys) {
-        AuditAnswer::Refused(refusal) => refuse(out, refusal),
-        AuditAnswer::Faulty(first) => {
-            let fault = first.fault;
-            put_refusal(out, fault.number() as u64, first.packet.0 as u64)
-        }
-        AuditAnswer::Passed(totals) => {
-            let counts = counts_of(totals);
-            let at = put(out, 0, &HEADER);
-            put_line(out, at, &counts)
-        }
+    let reply = audit::audit(slots, values, room, fates, whens, bys).reply();
+    if reply.number != 0 {
+        return put_refusal(out, reply.number as u64, reply.place as u64);
     }
+    let counts = counts_of(reply.totals);
+    let at = put(out, 0, &HEADER);
+    put_line(out, at, &counts)
 }
 
 // What the audit makes of a record, with its rows' numbers.

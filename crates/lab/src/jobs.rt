@@ -2,7 +2,6 @@
 ghost use mathlib.Core.Path.{_≡_};
 ghost use lib.ListN.{getD};
 ghost use Rattle.lab.specs.Jobs.{allBetas, isTable, jobFrom};
-use crate::policy::Policy;
 use crate::words::AUDIT;
 use crate::words::BETA;
 use crate::words::GREEDY;
@@ -15,6 +14,7 @@ use crate::words::TABLE;
 use crate::words::same;
 use model::Beta;
 use model::Marking;
+use text::Policy;
 
 // A command with its room; a table's betas are the words behind its room.
 pub enum Job {

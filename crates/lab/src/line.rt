@@ -4,12 +4,12 @@ ghost use Prim.Native.Nat.{_+_, _*_, _≤_};
 ghost use lib.ListN.{length};
 ghost use Rattle.output.specs.Writing.{WroteIn};
 ghost use Rattle.lab.specs.Line.{nameOf, countsOf, behindCommas, partOf, lineOf};
-use crate::policy::Policy;
 use model::Totals;
 use output::put;
 use output::put_number;
 use signs::COMMA;
 use signs::ZERO;
+use text::Policy;
 
 // Writes a policy's name with its parameters.
 fn put_name(out: &mut [u8], at: usize, policy: Policy) -> usize

@@ -5,20 +5,21 @@ mod arguments;
 mod auditing;
 mod jobs;
 mod line;
-mod policy;
 mod refusal;
-mod run;
 mod table;
 mod words;
 
 ghost use mathlib.Core.Path.{_≡_};
 ghost use Prim.Native.Nat.{_≤_};
 ghost use lib.ListN.{length, drop};
-ghost use Rattle.lab.specs.Answer.{outputLimit};
+ghost use Rattle.output.specs.Output.{outputLimit};
+ghost use Rattle.lab.specs.Jobs.{mostBetas, mostWords};
+ghost use Rattle.lab.specs.Answer.{recordPlaces};
 ghost use Rattle.lab.specs.Writing.{BeginsIn};
 ghost use Rattle.lab.specs.Told.{ReadFor, Few, readText, ToldOf, ToldBy};
 use answer::answer;
 use arguments::Arguments;
+use arguments::WORDS;
 use arguments::read_words;
 use input::Ended;
 use input::read_rows;
@@ -27,24 +28,16 @@ use jobs::job_from;
 use libc::STDOUT_FILENO;
 use model::Cause;
 use model::Record;
+use output::OUTPUT;
 use output::put_refusal;
 use rows::Rows;
-
-// The most words of a command.
-const WORDS: usize = 34;
-
-// The headers of the input: of a trace, and of a record.
-const TRACE: [u8; 10] = *b"slot,value";
-
-const RECORD: [u8; 30] = *b"number,slot,value,fate,when,by";
+use signs::RECORD;
+use signs::TRACE;
 
 // A place for each packet in each column: of a trace, and of a record.
 const TRACE_TABLE: usize = 2 * Record::PACKETS;
 
 const RECORD_TABLE: usize = 6 * Record::PACKETS;
-
-// The longest answer.
-const OUTPUT: usize = 32 + 128 * Record::PACKETS;
 
 // What there is to say: so many bytes to write, or nothing, where a read failed or the input was longer than can be counted.
 enum Told {
@@ -55,7 +48,7 @@ enum Told {
 
 // Reads the input of a job: a record for the audit, else a trace, into the table's first columns.
 fn read_input(job: Job, table: &mut [u32]) -> Ended
-    requires { ⌜ length (now table) ≡ 12288 ⌝ }
+    requires { ⌜ length (now table) ≡ recordPlaces ⌝ }
     ensures { λ r. ⌜ ReadFor job r (now (table .entry)) (now (table .exit)) ⌝ }
 {
     if let Job::Audit(_) = job {
@@ -67,8 +60,8 @@ fn read_input(job: Job, table: &mut [u32]) -> Ended
 // What is said of a job and what was read for it.
 fn say(job: Job, nums: &[u32], dens: &[u32], read: Rows, rows: &[u32], out: &mut [u8]) -> usize
     requires { ⌜ length (now dens) ≡ length (now nums) ⌝ }
-    requires { ⌜ length (now nums) ≤ 32 ⌝ }
-    requires { ⌜ length (now rows) ≡ 12288 ⌝ }
+    requires { ⌜ length (now nums) ≤ mostBetas ⌝ }
+    requires { ⌜ length (now rows) ≡ recordPlaces ⌝ }
     requires { ⌜ Few read ⌝ }
     requires { ⌜ outputLimit ≤ length (now out) ⌝ }
     ensures { λ r. ⌜ BeginsIn out r (readText job (now (nums .entry)) (now (dens .entry)) read (now (rows .entry))) ⌝ }
@@ -90,8 +83,8 @@ fn say_words(
     out: &mut [u8],
 ) -> usize
     requires { ⌜ length (now seconds) ≡ length (now firsts) ⌝ }
-    requires { ⌜ length (now firsts) ≤ 34 ⌝ }
-    requires { ⌜ length (now rows) ≡ 12288 ⌝ }
+    requires { ⌜ length (now firsts) ≤ mostWords ⌝ }
+    requires { ⌜ length (now rows) ≡ recordPlaces ⌝ }
     requires { ⌜ Few read ⌝ }
     requires { ⌜ outputLimit ≤ length (now out) ⌝ }
     ensures { λ r. ⌜ BeginsIn out r (readText job (drop 2 (now (firsts .entry))) (drop 2 (now (seconds .entry))) read (now (rows .entry))) ⌝ }
@@ -105,7 +98,7 @@ fn say_words(
 // Reads the input, where the words ask for something, and puts the answer into the list.
 fn answer_words(words: &[u8], firsts: &[u32], seconds: &[u32], out: &mut [u8]) -> Told
     requires { ⌜ length (now seconds) ≡ length (now firsts) ⌝ }
-    requires { ⌜ length (now firsts) ≤ 34 ⌝ }
+    requires { ⌜ length (now firsts) ≤ mostWords ⌝ }
     requires { ⌜ outputLimit ≤ length (now out) ⌝ }
     ensures { λ r. ⌜ ToldOf (now (words .entry)) (now (firsts .entry)) (now (seconds .entry)) r (now (out .exit)) ⌝ }
 {

@@ -5,12 +5,11 @@ ghost use Prim.Native.Nat.{_+_, _*_, _≤_};
 ghost use lib.ListN.{length};
 ghost use Rattle.model.specs.Limits.{recordLimits};
 ghost use Rattle.output.specs.Writing.{WroteIn};
+ghost use Rattle.lab.specs.Jobs.{mostBetas};
 ghost use Rattle.lab.specs.Table.{lowest as lowestOf, greatestFrom, linesOf, betasOf, comparedOf, mfLine, tableWith, tableText};
 ghost use Rattle.lab.specs.Writing.{BeginsIn, LinedIn};
-ghost use Rattle.lab.specs.Answer.{outputLimit};
+ghost use Rattle.output.specs.Output.{outputLimit};
 use crate::line::put_line;
-use crate::policy::Policy;
-use crate::policy::reply;
 use crate::refusal::refuse;
 use model::Beta;
 use model::Marking;
@@ -18,6 +17,8 @@ use model::Refusal;
 use model::RunAnswer;
 use model::Totals;
 use output::put;
+use text::Policy;
+use text::reply;
 
 const HEADER: [u8; 75] =
     *b"policy,sent,value,rejected,pushed out,preempted,flushed,most held,of plan\r\n";
@@ -166,7 +167,7 @@ fn table_with(
 ) -> usize
     requires { ⌜ length (now slots) ≤ recordLimits .packets ⌝ }
     requires { ⌜ length (now dens) ≡ length (now nums) ⌝ }
-    requires { ⌜ length (now nums) ≤ 32 ⌝ }
+    requires { ⌜ length (now nums) ≤ mostBetas ⌝ }
     requires { ⌜ outputLimit ≤ length (now out) ⌝ }
     ensures { λ r. ⌜ BeginsIn out r (tableWith room (now (nums .entry)) (now (dens .entry)) (now (slots .entry)) (now (values .entry)) plan) ⌝ }
 {
@@ -192,7 +193,7 @@ pub fn table(
 ) -> usize
     requires { ⌜ length (now slots) ≤ recordLimits .packets ⌝ }
     requires { ⌜ length (now dens) ≡ length (now nums) ⌝ }
-    requires { ⌜ length (now nums) ≤ 32 ⌝ }
+    requires { ⌜ length (now nums) ≤ mostBetas ⌝ }
     requires { ⌜ outputLimit ≤ length (now out) ⌝ }
     ensures { λ r. ⌜ BeginsIn out r (tableText room (now (nums .entry)) (now (dens .entry)) (now (slots .entry)) (now (values .entry))) ⌝ }
 {

@@ -1,9 +1,11 @@
 -- What each answer of a call says in 01's numbers: for every case of every answer enum its number, its place and its values. A case to which 01 gives
--- no number has 0. The promises of all calls speak through these.
+-- no number has 0. The promises of all calls speak through these. The kinds Reply and PortReply are declared in src/lib.rt, which says what
+-- their numbers are.
 use Prim.Native.Nat.{ℕ}
 use Rattle.model.specs.declared.PacketNumber.{PacketNumber}
 use Rattle.model.specs.declared.Packet.{Packet}
-use Rattle.model.specs.declared.Totals.{Totals}
+use Rattle.model.specs.declared.Reply as reply
+use Rattle.model.specs.declared.PortReply as port-reply
 use Rattle.model.specs.declared.Fate.the-variants as fates
 use Rattle.model.specs.declared.RunAnswer.{RunAnswer}
 use Rattle.model.specs.declared.RunAnswer.the-variants as run
@@ -21,11 +23,13 @@ use Rattle.model.specs.Numbers.{fateNumber}
 use Rattle.model.specs.Record.{lossFate}
 use Rattle.model.specs.Totals.{noTotals}
 
--- what a call on a trace says: 0, or a refusal's or a fault's number with its place; and the totals, zero throughout where there are none
-pub record Reply : Type 0 where
-  pub number : ℕ
-  pub place : ℕ
-  pub totals : Totals
+-- what a call on a trace says
+abbrev pub Reply : Type 0
+Reply = reply.Reply
+
+-- what a live call says
+abbrev pub PortReply : Type 0
+PortReply = port-reply.PortReply
 
 abbrev pub ofRun : RunAnswer → Reply
 ofRun (run.Ran t) = record { number = 0; place = 0; totals = t }
@@ -35,18 +39,6 @@ abbrev pub ofAudit : AuditAnswer → Reply
 ofAudit (audit.Passed t) = record { number = 0; place = 0; totals = t }
 ofAudit (audit.Faulty f) = record { number = faultNumber (f .fault); place = f .packet .0; totals = noTotals }
 ofAudit (audit.Refused f) = record { number = causeNumber (f .cause); place = f .place; totals = noTotals }
-
--- what a live call says, zeros where there is none of these
-pub record PortReply : Type 0 where
-  -- a refusal's number; 0 for an arrival held at no cost, an idle slot and a made port; else the number of a fate, and whose it is:
-  -- 2 rejected, the arrival's own; 3 pushed out and 4 preempted, that of `packet`, lost to the arrival, which is held; 1 sent, that of `packet`
-  pub number : ℕ
-  -- the refusal's place
-  pub place : ℕ
-  -- the number that the arrival was given
-  pub given : PacketNumber
-  -- the packet that was lost or sent
-  pub packet : Packet
 
 -- a refusal of a live call
 abbrev pub portRefused : ℕ → ℕ → PortReply

@@ -1,8 +1,8 @@
 -- A list with places for the longest text of a kind is written into; one with fewer is left as it was. So a writer that tests for the places, and then
 -- writes, puts its text.
-use Prim.Native.Nat.{ℕ, _+_, _*_, _/_, _-_, _≤_, _<_}
+use Prim.Native.Nat.{ℕ, _+_, _*_, _-_, _≤_, _<_}
 use mathlib.Core.Path.{_≡_, refl, sym, ap, _∙_}
-use mathlib.Core.Bool.{true, false}
+use mathlib.Core.Bool.{false}
 use mathlib.Core.List.{List, [], _++_}
 use native.Mathlib.Omega.{arith}
 use lib.ListN.{length}
@@ -59,13 +59,15 @@ pub same-kept : {slots values fates whens bys fates′ whens′ bys′ : List �
 same-kept same f w b =
     record { of-values = same .of-values; of-fates = f ∙ same .of-fates; of-whens = w ∙ same .of-whens; of-bys = b ∙ same .of-bys }
 
--- a text, and a record's rows behind it
-pub put-rows-behind : {need next next′ : ℕ} {text out between out′ slots values fates whens bys : List ℕ} → need ≡ length text
-    → need + 128 * length slots ≤ length out → Put need 0 text out next between
-    → Put (128 * length slots) next (rowsText slots values (record { fates = fates; whens = whens; bys = bys })) between next′ out′
+-- a header, its line's end, and a record's rows behind them
+pub put-rows-behind : {n m k next next′ next″ : ℕ} {text end out out′ out″ out‴ slots values fates whens bys : List ℕ} → n ≡ length text → m ≡ length end
+    → n + m + k ≤ length out → k ≡ 128 * length slots → Put n 0 text out next out′ → Put m next end out′ next′ out″
+    → Put k next′ (rowsText slots values (record { fates = fates; whens = whens; bys = bys })) out″ next″ out‴
     → SameLengths slots values fates whens bys
-    → Wrote 0 (text ++ rowLines (rows (arrivals slots values) (record { fates = fates; whens = whens; bys = bys }))) out next′ out′
-put-rows-behind {text = text} {out} exact long first second same =
+    → Wrote 0 (text ++ (end ++ rowLines (rows (arrivals slots values) (record { fates = fates; whens = whens; bys = bys })))) out next″ out‴
+put-rows-behind {text = text} {end} {out} {out′} exact exact′ long size first second third same =
     let one = first .fits (omega arith) in
     let long′ = ap length (one .written) ∙ length-sets out 0 text in
-    wrote-both one (wrote-same (sym (rows-text same)) refl (second .fits (omega (arith, one .behind, long′))))
+    let two = second .fits (omega (arith, one .behind, long′)) in
+    let long″ = ap length (two .written) ∙ length-sets out′ _ end in
+    wrote-both one (wrote-both two (wrote-same (sym (rows-text same)) refl (third .fits (omega (arith, one .behind, two .behind, long′, long″)))))

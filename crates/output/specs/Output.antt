@@ -1,8 +1,9 @@
 -- What our programs write: CSV with CRLF after each line.
-use Prim.Native.Nat.{ℕ, zero, suc, _+_, _/_, _%_}
+use Prim.Native.Nat.{ℕ, zero, suc, _+_, _*_, _/_, _%_}
 use mathlib.Core.Bool.{cond}
 use mathlib.Core.List.{List, [], _∷_, _++_}
 use lib.Dec.{ltb}
+use Rattle.model.specs.Limits.{recordLimits}
 use Rattle.model.specs.Record.{Row}
 use Rattle.signs.specs.Signs.{cr, lf, comma}
 
@@ -28,15 +29,13 @@ unfoldable pub rowLines : List Row → List ℕ
 rowLines [] = []
 rowLines (r ∷ rows) = rowLine r ++ rowLines rows
 
--- `number,slot,value,fate,when,by`
-abbrev pub recordHeader : List ℕ
-recordHeader =
-    110 ∷ 117 ∷ 109 ∷ 98 ∷ 101 ∷ 114 ∷ 44 ∷ 115 ∷ 108 ∷ 111 ∷ 116 ∷ 44 ∷ 118 ∷ 97 ∷ 108 ∷ 117 ∷ 101 ∷ 44 ∷ 102 ∷ 97 ∷ 116 ∷ 101 ∷ 44 ∷ 119
-    ∷ 104 ∷ 101 ∷ 110 ∷ 44 ∷ 98 ∷ 121 ∷ cr ∷ lf ∷ []
-
 -- `refusal,place`
 abbrev pub refusalHeader : List ℕ
 refusalHeader = 114 ∷ 101 ∷ 102 ∷ 117 ∷ 115 ∷ 97 ∷ 108 ∷ 44 ∷ 112 ∷ 108 ∷ 97 ∷ 99 ∷ 101 ∷ cr ∷ lf ∷ []
 
 abbrev pub refusalText : ℕ → ℕ → List ℕ
 refusalText number place = refusalHeader ++ lineWith (number ∷ place ∷ [])
+
+-- no answer of a program is longer than the header of a record, of 32 bytes with its line's end, and 128 bytes a packet
+abbrev pub outputLimit : ℕ
+outputLimit = 32 + 128 * recordLimits .packets

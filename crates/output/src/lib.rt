@@ -8,6 +8,7 @@ ghost use Rattle.output.specs.Writing.{PutIn, rowsText};
 
 mod write;
 
+use model::Record;
 use write::write_bytes;
 use write::write_line;
 use write::write_number;
@@ -23,6 +24,9 @@ const END: usize = 2;
 const ROW: usize = 128;
 
 const REFUSED: usize = 59;
+
+// The most bytes of an answer: a record's header with its line's end, and its rows.
+pub const OUTPUT: usize = 32 + ROW * Record::PACKETS;
 
 const REFUSAL: [u8; 15] = *b"refusal,place\r\n";
 

@@ -7,13 +7,11 @@ ghost use Rattle.model.specs.Lent.{listsBefore};
 ghost use Rattle.output.specs.Output.{decimal, lineWith, rowLines};
 ghost use Rattle.output.specs.Writing.{WroteIn, SameLengths};
 use signs::COMMA;
+use signs::LINE_END;
 use signs::ZERO;
 
 // The most digits of a u64.
 const DIGITS: usize = 20;
-
-// The line's end.
-const END: [u8; 2] = *b"\r\n";
 
 // Writes some bytes, and answers the place behind them.
 pub fn write_bytes(out: &mut [u8], at: usize, text: &[u8]) -> usize
@@ -62,7 +60,7 @@ pub fn write_line(out: &mut [u8], at: usize, numbers: &[u64]) -> usize
             end += 1;
         }
     }
-    write_bytes(out, end, &END)
+    write_bytes(out, end, &LINE_END)
 }
 
 // Writes a record's rows.

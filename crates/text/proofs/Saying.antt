@@ -1,30 +1,23 @@
--- What is said of a run is its record or its refusal, and what is said at the end is what the state says, written at the start of the list.
-use Prim.Native.Nat.{ℕ, zero, suc, _+_, _-_, _≤_, _<_}
+-- What is said at the end is what was read says, written at the start of the list.
+use Prim.Native.Nat.{ℕ, _+_, _-_, _≤_, _<_}
 use mathlib.Core.Path.{_≡_, refl, sym, ap, ap₂, _∙_}
-use mathlib.Core.List.{List, [], _∷_, _++_}
+use mathlib.Core.List.{List, [], _++_}
 use native.Mathlib.Omega.{arith}
-use lib.ListN.{length, take, drop, replicate}
+use lib.ListN.{length, take, drop}
 use lib.Seq.{sets-eq}
 use borrow.Author.Tests.{eq-eqb, ne-eqb, le-ltb, lt-ltb}
 use Rattle.model.specs.declared.Cause.the-variants as causes
 use Rattle.model.specs.Limits.{recordLimits}
-use Rattle.model.specs.Record.{listsOf}
 use Rattle.model.specs.Answers.{causeNumber}
-use Rattle.model.specs.Calls.{pgCall}
-use Rattle.output.specs.Output.{refusalText}
-use Rattle.output.specs.Said.{saidOf}
+use Rattle.output.specs.Output.{outputLimit, refusalText}
 use Rattle.output.specs.Writing.{Wrote}
-use Rattle.output.proofs.Said.{zeros}
 use Rattle.rows.specs.declared.Rows.{Rows}
 use Rattle.rows.specs.declared.Rows.the-variants.{Read}
+use Rattle.text.specs.declared.Policy.the-variants.{Pg}
+use Rattle.text.specs.Run.{runSpoken}
 use Rattle.text.specs.Bench.{benchRoom, benchBeta, traceOutput}
-use Rattle.text.specs.Says.{saysOf, outputLimit, tableSize, spoken, Answered}
-
-pub blank-said : (slots values : List ℕ) (m : ℕ) → length slots ≤ m
-    → saidOf slots values (pgCall slots values benchRoom benchBeta (listsOf (take (length slots) (replicate m 0)) (take (length slots) (replicate m 0)) (take (length slots) (replicate m 0))))
-    ≡ traceOutput slots values
-unfolding traceOutput
-blank-said slots values m h = ap (λ (l : List ℕ). saidOf slots values (pgCall slots values benchRoom benchBeta (listsOf l l l))) (zeros (length slots) m h)
+use Rattle.text.specs.Says.{saysOf, tableSize, spoken, Answered}
+use Rattle.text.proofs.Policies.{spoken-all}
 
 pub answered-none : (read : Rows) (table out : List ℕ) → spoken read table out ≡ [] → Answered read table out 0 out
 answered-none read table out none = record { inside = omega arith; count = rw none refl; written = rw none refl }
@@ -69,3 +62,8 @@ module _ (read : Rows) (table out : List ℕ) where
       says-trace count is few =
           let n : 2048 + count - 2048 ≡ count = omega arith in
           says-by (Read count) is ∙ rw (le-ltb 2048 count few, n) refl
+
+-- what PG says of a trace, where the list is long enough
+pub trace-spoken : (slots values out : List ℕ) → outputLimit ≤ length out → runSpoken (Pg benchBeta) benchRoom slots values out ≡ traceOutput slots values
+unfolding traceOutput
+trace-spoken slots values out long = sym (spoken-all (Pg benchBeta) benchRoom slots values out long)

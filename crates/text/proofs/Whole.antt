@@ -5,16 +5,15 @@ use mathlib.Core.Path.{_≡_, refl, sym, ap, _∙_}
 use mathlib.Core.Bool.{Bool, true, false, cond}
 use mathlib.Core.List.{List}
 use native.Mathlib.Omega.{arith}
-use lib.ListN.{length, getD, take, drop, length-map, length-replicate}
+use lib.ListN.{length, getD, take, drop, length-map}
 use lib.Seq.{take-at}
 use lib.Dec.{ltb}
-use borrow.Author.Tests.{ltb-true, ltb-false, lt-leb, eq-eqb}
+use borrow.Author.Tests.{ltb-true, ltb-false, eq-eqb}
 use Rattle.model.specs.declared.Cause.the-variants.{Packets}
 use Rattle.model.specs.Limits.{recordLimits}
 use Rattle.model.specs.Answers.{causeNumber}
-use Rattle.model.specs.Calls.{pgCall, runUnless}
-use Rattle.model.specs.Refusals.{pgRefusal}
-use Rattle.model.specs.Rules.{orElse}
+use Rattle.model.specs.Totals.{noTotals}
+use Rattle.signs.specs.Signs.{traceHeader}
 use Rattle.field.specs.Fields.{fieldsOf}
 use Rattle.rows.specs.declared.Rows.{Rows}
 use Rattle.rows.specs.declared.Rows.the-variants.{TooMany, Read}
@@ -22,17 +21,20 @@ use Rattle.rows.specs.Input.{Input, malformed, rows, columnOf, inputOf}
 use Rattle.rows.specs.Whole.{Stands}
 use Rattle.rows.specs.Whole as read
 use Rattle.output.specs.Output.{refusalText}
-use Rattle.text.specs.Bench.{benchHeader, traceOutput, outputBy, benchOutput}
+use Rattle.text.specs.declared.Policy.the-variants.{Pg}
+use Rattle.text.specs.Bench.{benchRoom, benchBeta, traceOutput, outputBy, benchOutput}
 use Rattle.text.specs.Says.{saysOf, spoken}
 use Rattle.text.specs.Whole.{Whole}
+use Rattle.text.proofs.Policies.{over-said}
 use Rattle.text.proofs.Saying.{says-all}
 
 -- more than 2,048 packets are refused with 2, whatever they are
 too-many : (slots values : List ℕ) → length values ≡ length slots → recordLimits .packets < length slots
     → traceOutput slots values ≡ refusalText (causeNumber Packets) 0
-unfolding traceOutput pgCall pgRefusal runUnless orElse
+unfolding traceOutput
 too-many slots values same many =
-    rw (length-replicate {A = ℕ} (length slots) 0, eq-eqb (length values) (length slots) same, eq-eqb (length slots) (length slots) refl, lt-leb (length slots) 2048 many) refl
+    sym (over-said (Pg benchBeta) benchRoom slots values many {reply = record { number = causeNumber Packets; place = 0; totals = noTotals }}
+    (rw (eq-eqb (length values) (length slots) same) refl))
 
 column-length : (j : ℕ) (all : List (List ℕ)) → length (columnOf j all) ≡ length all
 column-length j all = length-map all (λ (row : List ℕ). getD row j 0)
@@ -58,4 +60,4 @@ whole text read table tells size out long r out′ A =
     ∙ take-at (spoken read table out) (drop r out) r (sym (A .count))
     ∙ says-all read table out size long
     ∙ ap (λ (said : Rows). saysOf said table) (tells .says)
-    ∙ says-input (inputOf benchHeader text) table (tells .stands)
+    ∙ says-input (inputOf traceHeader text) table (tells .stands)

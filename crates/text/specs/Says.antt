@@ -1,6 +1,6 @@
 -- What the program says of what was read: 21 at its bad line, 2 where more packets came than there are places for, or what PG makes of those that were
 -- read.
-use Prim.Native.Nat.{ℕ, _+_, _*_, _≤_}
+use Prim.Native.Nat.{ℕ, _*_, _≤_}
 use mathlib.Core.Path.{_≡_}
 use mathlib.Core.Bool.{cond}
 use mathlib.Core.List.{List, [], _++_}
@@ -12,7 +12,7 @@ use Rattle.model.specs.Numbers.{causeNumber}
 use Rattle.rows.specs.declared.Rows.{Rows}
 use Rattle.rows.specs.declared.Rows.the-variants.{Malformed, TooMany, Read}
 use Rattle.rows.specs.Table.{columnIn}
-use Rattle.output.specs.Output.{refusalText}
+use Rattle.output.specs.Output.{outputLimit, refusalText}
 use Rattle.text.specs.Bench.{traceOutput}
 
 -- the table's first column has the slots, its second the values
@@ -21,10 +21,6 @@ saysOf (Malformed line) table = refusalText (causeNumber Text) line
 saysOf TooMany table = refusalText (causeNumber Packets) 0
 saysOf (Read count) table =
     cond (ltb (recordLimits .packets) count) (refusalText (causeNumber Packets) 0) (traceOutput (columnIn 0 count table) (columnIn 1 count table))
-
--- no output is longer than the header of 32 bytes and 128 bytes a packet
-abbrev pub outputLimit : ℕ
-outputLimit = 32 + 128 * recordLimits .packets
 
 abbrev pub tableSize : ℕ
 tableSize = 2 * recordLimits .packets

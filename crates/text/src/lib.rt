@@ -1,23 +1,160 @@
-// The answer of the bench program to what was read, in a lent list. Every public function takes lists of any length, and states all that it answers and
-// leaves.
+// One run as text, for every policy, and the bench program's answer to what was read, in lent lists. Every public function takes lists of any length, and
+// states all that it answers and leaves.
+ghost use mathlib.Core.Path.{_≡_};
+ghost use Prim.Native.Nat.{_≤_};
+ghost use lib.ListN.{length};
+ghost use Rattle.model.specs.Limits.{recordLimits};
+ghost use Rattle.model.specs.Answers.{ofRun};
+ghost use Rattle.model.specs.Lent.{was, left, listsBefore, listsAfter};
+ghost use Rattle.steps.specs.Calls.{outcome};
+ghost use Rattle.output.specs.Output.{outputLimit};
+ghost use Rattle.output.specs.Writing.{WroteIn};
+ghost use Rattle.text.specs.Run.{callOf, replyOf, tooMany, calledText, runSpoken};
 ghost use Rattle.text.specs.Says.{Answered};
-use crate::run::run;
+use model::Beta;
 use model::Cause;
+use model::Marking;
 use model::Record;
+use model::Refusal;
+use model::RunAnswer;
+use output::OUTPUT;
+use output::put;
 use output::put_refusal;
+use output::put_rows;
 use rows::Rows;
+use signs::LINE_END;
+use signs::RECORD;
 
-mod run;
+// The policies and the offline plan, each with its parameters.
+pub enum Policy {
+    Greedy,
+    Pg(Beta),
+    Mf(Marking),
+    Plan,
+}
 
-// The table that is read: a column of slots and a column of values.
+// The table that the bench program reads: a column of slots and a column of values.
 pub const TABLE: usize = 2 * Record::PACKETS;
 
-// The longest answer: the header, and a packet's six numbers of at most 20 digits, each with a comma or the line's end behind it.
-pub const OUTPUT: usize = 32 + 128 * Record::PACKETS;
+// What the bench program runs: PG with this room and beta num / den.
+const ROOM: usize = 2;
 
-// What the program says of what was read, and how many bytes that is. Nothing is written where a list is not as long as it has to be.
+const NUM: u32 = 9;
+
+const DEN: u32 = 1;
+
+// A policy's run on a trace, with its record in three lent lists.
+pub fn call(
+    policy: Policy,
+    room: usize,
+    slots: &[u32],
+    values: &[u32],
+    fates: &mut [u32],
+    whens: &mut [u32],
+    bys: &mut [u32],
+) -> RunAnswer
+    ensures { λ r. ⌜ outcome r (listsAfter fates whens bys) ≡ callOf policy room (was slots) (was values) (listsBefore fates whens bys) ⌝ }
+{
+    match policy {
+        Policy::Greedy => runs::greedy(slots, values, room, fates, whens, bys),
+        Policy::Pg(beta) => runs::pg(slots, values, room, beta, fates, whens, bys),
+        Policy::Mf(m) => runs::mf(slots, values, room, m, fates, whens, bys),
+        Policy::Plan => runs::plan(slots, values, room, fates, whens, bys),
+    }
+}
+
+// The answer to a trace that has more packets than a record has places, whatever the policy.
+fn too_many(packets: usize, values: usize) -> RunAnswer
+    ensures { λ r. ⌜ ofRun r ≡ tooMany packets values ⌝ }
+{
+    if values != packets {
+        return RunAnswer::Refused(Refusal {
+            cause: Cause::Lengths,
+            place: 0,
+        });
+    }
+    RunAnswer::Refused(Refusal {
+        cause: Cause::Packets,
+        place: 0,
+    })
+}
+
+// What a policy's run on a trace answers; the record is dropped.
+pub fn reply(policy: Policy, room: usize, slots: &[u32], values: &[u32]) -> RunAnswer
+    ensures { λ r. ⌜ ofRun r ≡ replyOf policy room (was slots) (was values) ⌝ }
+{
+    let n = slots.len();
+    if Record::PACKETS < n {
+        return too_many(n, values.len());
+    }
+    let mut fates = [0u32; Record::PACKETS];
+    let mut whens = [0u32; Record::PACKETS];
+    let mut bys = [0u32; Record::PACKETS];
+    call(
+        policy,
+        room,
+        slots,
+        values,
+        &mut fates[..n],
+        &mut whens[..n],
+        &mut bys[..n],
+    )
+}
+
+// What a policy says of a trace, with its record in three lent lists.
+fn say(
+    policy: Policy,
+    room: usize,
+    slots: &[u32],
+    values: &[u32],
+    fates: &mut [u32],
+    whens: &mut [u32],
+    bys: &mut [u32],
+    out: &mut [u8],
+) -> usize
+    requires { ⌜ length (now slots) ≤ recordLimits .packets ⌝ }
+    requires { ⌜ outputLimit ≤ length (now out) ⌝ }
+    ensures { λ r. ⌜ WroteIn out r 0 (calledText policy room (was slots) (was values) (listsBefore fates whens bys)) ⌝ }
+{
+    let reply = call(policy, room, slots, values, fates, whens, bys).reply();
+    if reply.number != 0 {
+        return put_refusal(out, reply.number as u64, reply.place as u64);
+    }
+    let header = put(out, 0, &RECORD);
+    let at = put(out, header, &LINE_END);
+    put_rows(out, at, slots, values, fates, whens, bys)
+}
+
+// What a policy says of a trace. Nothing is written where the list is too short for the longest answer.
+pub fn run(policy: Policy, room: usize, slots: &[u32], values: &[u32], out: &mut [u8]) -> usize
+    ensures { λ r. ⌜ WroteIn out r 0 (runSpoken policy room (was slots) (was values) (was out)) ⌝ }
+{
+    if out.len() < OUTPUT {
+        return 0;
+    }
+    let n = slots.len();
+    if Record::PACKETS < n {
+        let reply = too_many(n, values.len()).reply();
+        return put_refusal(out, reply.number as u64, reply.place as u64);
+    }
+    let mut fates = [0u32; Record::PACKETS];
+    let mut whens = [0u32; Record::PACKETS];
+    let mut bys = [0u32; Record::PACKETS];
+    say(
+        policy,
+        room,
+        slots,
+        values,
+        &mut fates[..n],
+        &mut whens[..n],
+        &mut bys[..n],
+        out,
+    )
+}
+
+// What the bench program says of what was read, and how many bytes that is. Nothing is written where a list is not as long as it has to be.
 pub fn answer(read: Rows, table: &[u32], out: &mut [u8]) -> usize
-    ensures { λ r. ⌜ Answered read (now (table .entry)) (now (out .entry)) r (now (out .exit)) ⌝ }
+    ensures { λ r. ⌜ Answered read (was table) (was out) r (left out) ⌝ }
 {
     if table.len() != TABLE {
         return 0;
@@ -33,7 +170,8 @@ pub fn answer(read: Rows, table: &[u32], out: &mut [u8]) -> usize
                 return put_refusal(out, Cause::Packets.number() as u64, 0);
             }
             let end = Record::PACKETS + count;
-            run(&table[..count], &table[Record::PACKETS..end], out)
+            let pg = Policy::Pg(Beta { num: NUM, den: DEN });
+            run(pg, ROOM, &table[..count], &table[Record::PACKETS..end], out)
         }
     }
 }

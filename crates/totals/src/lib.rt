@@ -6,7 +6,6 @@ ghost use Prim.Native.Nat.{_≤_};
 ghost use lib.ListN.{length};
 ghost use lib.Dec.{eqb};
 ghost use Rattle.model.specs.Limits.{recordLimits};
-ghost use Rattle.model.specs.Totals.{noTotals};
 ghost use Rattle.laws.specs.WellFormed.{sum};
 ghost use Rattle.totals.specs.Totals.{ValuesFit, Countable, tallyBy, CountedOrNone};
 use checks::values_ok;
@@ -59,33 +58,17 @@ fn tally_of(values: &[u32], fates: &[u32], fate: Fate) -> Tally
     Tally { count, value }
 }
 
-// No totals: zero throughout.
-pub fn none() -> Totals
-    ensures { λ r. ⌜ r ≡ noTotals ⌝ }
-{
-    let nothing = Tally { count: 0, value: 0 };
-    Totals {
-        arrived: nothing,
-        sent: nothing,
-        rejected: nothing,
-        pushed_out: nothing,
-        preempted: nothing,
-        flushed: nothing,
-        most_held: 0,
-    }
-}
-
 pub fn totals(values: &[u32], fates: &[u32], most: u32) -> Totals
     ensures { λ r. ⌜ CountedOrNone (now (values .entry)) (now (fates .entry)) most r ⌝ }
 {
     if values.len() != fates.len() {
-        return none();
+        return Totals::none();
     }
     if Record::PACKETS < fates.len() {
-        return none();
+        return Totals::none();
     }
     if !values_ok(values) {
-        return none();
+        return Totals::none();
     }
     let all = sum_of(values);
     let sent = tally_of(values, fates, Fate::Sent);

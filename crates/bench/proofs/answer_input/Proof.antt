@@ -1,7 +1,8 @@
 -- `bench::answer_input` meets its contract: what was read to the end is answered.
 use mathlib.Core.Path.{refl}
 use native.Mathlib.Omega.{arith}
-use Rattle.bench.proofs.Reading.{read-by, answered, too-long}
+use Rattle.input.proofs.Reading.{too-long}
+use Rattle.bench.proofs.Reading.{read-by, answered}
 use borrow.Author.Needs.{needs}
 use Rattle.bench.proofs.answer_input.Statement.{statement}
 use Rattle.bench.proofs.answer_input.Tie as tie

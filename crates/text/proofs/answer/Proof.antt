@@ -6,7 +6,7 @@ use lib.ListN.{length, take, drop, length-drop}
 use lib.Seq.{length-take-le}
 use Rattle.output.specs.Output.{refusalText}
 use Rattle.output.proofs.Writing.{wrote-same}
-use Rattle.text.proofs.Saying.{answered-none, answered, short-table, short-out, says-by, says-many, says-trace}
+use Rattle.text.proofs.Saying.{answered-none, answered, short-table, short-out, says-by, says-many, says-trace, trace-spoken}
 use borrow.Author.Needs.{needs}
 use Rattle.text.proofs.answer.Statement.{statement}
 use Rattle.text.proofs.answer.Tie as tie
@@ -83,13 +83,7 @@ part-run-end : tie.Need-part-run-end
 part-run-end c = search needs
 
 run-requires : tie.Need-run-requires
-run-requires c κs =
-    let table = c .before .before .before .before .before .before .before .before .before .before .before .args .table .now in
-    let count = c .before .before .before .before .before .read2 .given .0 .0 in
-    let slots = length-take-le count table (omega arith) in
-    let n : 2048 + count - 2048 ≡ count = omega arith in
-    let values : length (take (2048 + count - 2048) (drop 2048 table)) ≡ count = rw n (length-take-le count (drop 2048 table) (simp length-drop (omega arith))) in
-    (values ∙ sym slots, (omega arith, omega arith))
+run-requires c κs = search needs
 
 same-length-2 : tie.Need-same-length-2
 same-length-2 c = search needs
@@ -118,7 +112,7 @@ returns-6 : tie.Need-returns-6
 returns-6 c =
     let a = c .before .before .before .before .before .before .before .before .before .before .before .before .before .before .args in
     answered (a .read) (a .table .now) (a .out .now) _ _ _ (says-trace (a .read) (a .table .now) (a .out .now) (c .before .before .before .before .before .before .before .before .before .before .before .if1 .left) (c .before .before .before .before .before .before .before .before .before .before .if2 .left) _ (c .before .before .before .before .before .before .before .before .read2 .given .1) (c .before .before .before .before .before .before .if3 .left))
-    (c .before .before .run .ensures)
+    (wrote-same (trace-spoken _ _ (a .out .now) (c .before .before .before .before .before .before .before .before .before .before .if2 .left)) refl (c .before .before .run .ensures))
 
 pub answer-spec : {M : Type 1} → statement M
 answer-spec =

@@ -1,8 +1,8 @@
 -- `lab::answer::answer` meets its contract: by the job.
-use mathlib.Core.Path.{sym, _∙_}
+use mathlib.Core.Path.{sym}
 use native.Mathlib.Omega.{arith}
 use lib.Seq.{length-take-le}
-use Rattle.lab.proofs.Answering.{part-length, answer-run, answer-table, answer-audit, answer-none}
+use Rattle.lab.proofs.Answering.{answer-run, answer-table, answer-audit}
 use borrow.Author.Needs.{needs}
 use Rattle.lab.proofs.answer.answer.Statement.{statement}
 use Rattle.lab.proofs.answer.answer.Tie as tie
@@ -38,10 +38,7 @@ part-run-end : tie.Need-part-run-end
 part-run-end c = search needs
 
 run-requires : tie.Need-run-requires
-run-requires c κs =
-    let first = length-take-le (c .before .before .before .before .before .before .before .before .before .before .args .count) (c .before .before .before .before .before .before .before .before .before .before .args .rows .now) (omega (arith, c .before .before .before .before .before .before .before .before .before .before .pre .1 .1 .0, c .before .before .before .before .before .before .before .before .before .before .pre .1 .1 .1 .0)) in
-    let second = part-length (c .before .before .before .before .before .before .before .before .before .before .args .rows .now) (c .before .before .before .before .before .before .before .before .before .before .args .count) 2048 (omega (arith, c .before .before .before .before .before .before .before .before .before .before .pre .1 .1 .0, c .before .before .before .before .before .before .before .before .before .before .pre .1 .1 .1 .0)) in
-    (second ∙ sym first, (omega (arith, c .before .before .before .before .before .before .before .before .before .before .pre .1 .1 .1 .0), c .before .before .before .before .before .before .before .before .before .before .pre .1 .1 .1 .1))
+run-requires c κs = search needs
 
 enum-known-job-2 : tie.Need-enum-known-job-2
 enum-known-job-2 c = search needs
@@ -126,7 +123,7 @@ same-length : tie.Need-same-length
 same-length c = search needs
 
 returns : tie.Need-returns
-returns c = answer-run (c .before .before .before .before .before .before .before .before .before .before .before .before .before .args .rows .now) (c .before .before .before .before .before .before .before .before .before .before .before .before .before .args .count) (c .before .before .before .before .before .before .before .before .before .before .before .before .before .args .job) (c .before .before .before .before .before .before .before .before .before .before .before .before .before .args .nums .now) (c .before .before .before .before .before .before .before .before .before .before .before .before .before .args .dens .now) (c .before .before .before .before .before .before .before .job .given .1) (c .before .before .run .ensures)
+returns c = answer-run (c .before .before .before .before .before .before .before .before .before .before .before .before .before .args .rows .now) (c .before .before .before .before .before .before .before .before .before .before .before .before .before .args .count) (c .before .before .before .before .before .before .before .before .before .before .before .before .before .args .job) (c .before .before .before .before .before .before .before .before .before .before .before .before .before .args .nums .now) (c .before .before .before .before .before .before .before .before .before .before .before .before .before .args .dens .now) (c .before .before .before .before .before .before .before .job .given .1) (c .before .before .before .before .before .before .before .before .before .before .before .before .before .pre .1 .1 .1 .1) (c .before .before .run .ensures)
 
 same-length-2 : tie.Need-same-length-2
 same-length-2 c = search needs

@@ -1,14 +1,14 @@
--- `lab::auditing::say` meets its contract: by the audit's answer.
+-- `lab::auditing::say` meets its contract: by the reply's number, the refusal or the fault, or the header and the totals.
 use Prim.Native.Nat.{ℕ}
 use mathlib.Core.Path.{refl, ap, _∙_}
 use mathlib.Core.List.{List, _++_}
 use native.Mathlib.Omega.{arith}
 use lib.ListN.{length}
-use Rattle.output.specs.Output.{lineWith, refusalText}
+use Rattle.output.specs.Output.{lineWith}
 use Rattle.output.proofs.Writing.{wrote-same, wrote-both}
 use Rattle.lab.specs.Audit.{auditHeader}
 use Rattle.lab.proofs.Chain.{wrote-long}
-use Rattle.lab.proofs.Audits.{verdict-refused, verdict-faulty, verdict-passed}
+use Rattle.lab.proofs.Audits.{verdict-some, verdict-passed}
 use borrow.Author.Needs.{needs}
 use Rattle.lab.proofs.auditing.say.Statement.{statement}
 use Rattle.lab.proofs.auditing.say.Tie as tie
@@ -16,17 +16,8 @@ use Rattle.lab.proofs.auditing.say.Tie as tie
 audit-requires : tie.Need-audit-requires
 audit-requires c κs = search needs
 
-enum-known-refusal : tie.Need-enum-known-refusal
-enum-known-refusal c = search needs
-
-refuse-requires : tie.Need-refuse-requires
-refuse-requires c κs = search needs
-
-enum-known-first : tie.Need-enum-known-first
-enum-known-first c = search needs
-
-number-requires : tie.Need-number-requires
-number-requires c κs = search needs
+reply-requires : tie.Need-reply-requires
+reply-requires c κs = search needs
 
 cast-put-refusal : tie.Need-cast-put-refusal
 cast-put-refusal c = search needs
@@ -37,8 +28,11 @@ cast-put-refusal-2 c = search needs
 put-refusal-requires : tie.Need-put-refusal-requires
 put-refusal-requires c κs = search needs
 
-enum-known-totals : tie.Need-enum-known-totals
-enum-known-totals c = search needs
+same-length : tie.Need-same-length
+same-length c = search needs
+
+returns : tie.Need-returns
+returns c = wrote-same (verdict-some (c .before .before .before .before .before .before .before .before .before .audit .result) (c .before .before .before .before .before .before .before .before .before .audit .ensures) (c .before .before .before .before .before .before .before .before .reply .ensures) (c .before .before .before .before .before .before .if1 .taken)) refl (c .before .before .put-refusal .ensures .fits (omega (arith, c .before .before .before .before .before .before .before .before .before .before .before .before .before .before .before .before .pre)))
 
 counts-of-requires : tie.Need-counts-of-requires
 counts-of-requires c κs = search needs
@@ -55,49 +49,31 @@ slice-aggregate-put-line c = search needs
 put-line-requires : tie.Need-put-line-requires
 put-line-requires c κs = search needs
 
-same-length : tie.Need-same-length
-same-length c = search needs
-
-returns : tie.Need-returns
-returns c = wrote-same (verdict-refused (c .before .before .before .before .before .before .before .audit .result) _ (c .before .before .before .before .before .before .before .audit .ensures) (c .before .before .before .before .before .refusal .given .0 .0) (c .before .before .before .before .before .refusal .given .1)) refl (c .before .before .refuse .ensures)
-
 same-length-2 : tie.Need-same-length-2
 same-length-2 c = search needs
 
 returns-2 : tie.Need-returns-2
-returns-2 c = wrote-same (ap (λ (n : ℕ). refusalText n (c .before .before .before .before .before .before .before .first .given .0 .0 .packet .0)) (c .before .before .before .before .number .ensures) ∙ verdict-faulty (c .before .before .before .before .before .before .before .before .before .audit .result) _ (c .before .before .before .before .before .before .before .before .before .audit .ensures) (c .before .before .before .before .before .before .before .first .given .0 .0) (c .before .before .before .before .before .before .before .first .given .1)) refl (c .before .before .put-refusal .ensures .fits (omega (arith, c .before .before .before .before .before .before .before .before .before .before .before .before .before .before .before .before .pre)))
-
-same-length-3 : tie.Need-same-length-3
-same-length-3 c = search needs
-
-returns-3 : tie.Need-returns-3
-returns-3 c =
+returns-2 c =
     let seven = ap length (c .before .before .before .before .before .before .before .before .before .before .counts-of .ensures) in
     let head = c .before .before .before .before .before .before .before .put .ensures .fits (omega (arith, c .before .before .before .before .before .before .before .before .before .before .before .before .before .before .before .before .before .before .before .before .before .pre)) in
     let line = c .before .before .put-line .ensures .fits (omega (arith, c .before .before .before .before .before .before .before .before .before .before .before .before .before .before .before .before .before .before .before .before .before .pre, head .behind, wrote-long head)) in
-    wrote-same (ap (λ (counts : List ℕ). auditHeader ++ lineWith counts) (c .before .before .before .before .before .before .before .before .before .before .counts-of .ensures) ∙ verdict-passed (c .before .before .before .before .before .before .before .before .before .before .before .before .before .before .audit .result) _ (c .before .before .before .before .before .before .before .before .before .before .before .before .before .before .audit .ensures) (c .before .before .before .before .before .before .before .before .before .before .before .before .totals .given .0 .0) (c .before .before .before .before .before .before .before .before .before .before .before .before .totals .given .1)) refl (wrote-both head line)
+    wrote-same (ap (λ (counts : List ℕ). auditHeader ++ lineWith counts) (c .before .before .before .before .before .before .before .before .before .before .counts-of .ensures) ∙ verdict-passed (c .before .before .before .before .before .before .before .before .before .before .before .before .before .before .audit .result) (c .before .before .before .before .before .before .before .before .before .before .before .before .before .before .audit .ensures) (c .before .before .before .before .before .before .before .before .before .before .before .before .before .reply .ensures) (c .before .before .before .before .before .before .before .before .before .before .before .if1 .left)) refl (wrote-both head line)
 
 pub say-spec : {M : Type 1} → statement M
 say-spec =
     tie.close
     (tie.spec
     audit-requires
-    enum-known-refusal
-    refuse-requires
-    enum-known-first
-    number-requires
+    reply-requires
     cast-put-refusal
     cast-put-refusal-2
     put-refusal-requires
-    enum-known-totals
+    same-length
+    returns
     counts-of-requires
     slice-aggregate-put
     put-requires
     slice-aggregate-put-line
     put-line-requires
-    same-length
-    returns
     same-length-2
-    returns-2
-    same-length-3
-    returns-3)
+    returns-2)

@@ -1,8 +1,8 @@
--- `lab::policy::call` meets its contract: each case is the call of its policy.
-use Rattle.lab.proofs.Policies.{called}
+-- `text::call` meets its contract: each case is the call of its policy.
+use Rattle.text.proofs.Policies.{called}
 use borrow.Author.Needs.{needs}
-use Rattle.lab.proofs.policy.call.Statement.{statement}
-use Rattle.lab.proofs.policy.call.Tie as tie
+use Rattle.text.proofs.call.Statement.{statement}
+use Rattle.text.proofs.call.Tie as tie
 
 enum-told : tie.Need-enum-told
 enum-told c = search needs
