@@ -1,6 +1,6 @@
 -- What is heard of a making, of one event, and of each answer of a port. All that is heard is a remainder by 2 ^ 32.
 use Prim.Native.Nat.{ℕ, _+_, _<_, _≤_, _^_}
-use mathlib.Core.Path.{_≡_, refl, ap, sym, _∙_}
+use mathlib.Core.Path.{_≡_, refl, sym, _∙_}
 use mathlib.Core.Bool.{false}
 use mathlib.Core.List.{List, [], _∷_}
 use native.Mathlib.Numerals.{add-one}
@@ -9,21 +9,12 @@ use lib.ListN.{length, getD, drop, drop-of-length-le}
 use lib.Seq.{drop-cons}
 use lib.Dec.{eqb}
 use borrow.Author.Tests.{eq-eqb, ne-eqb}
-use Rattle.model.specs.declared.Fate.the-variants as fates
-use Rattle.model.specs.declared.Loss.{Loss}
-use Rattle.model.specs.declared.Packet.{Packet}
-use Rattle.model.specs.declared.PacketNumber.{PacketNumber}
 use Rattle.model.specs.declared.Refusal.{Refusal}
-use Rattle.model.specs.declared.ArrivalAnswer.{ArrivalAnswer}
-use Rattle.model.specs.declared.ArrivalAnswer.the-variants as arrival
-use Rattle.model.specs.declared.SlotAnswer.{SlotAnswer}
-use Rattle.model.specs.declared.SlotAnswer.the-variants as slot
 use Rattle.model.specs.declared.Cause.{Cause}
 use Rattle.model.specs.declared.Cause.the-variants as causes
 use Rattle.model.specs.declared.MakingAnswer.{MakingAnswer}
 use Rattle.model.specs.declared.MakingAnswer.the-variants as making
-use Rattle.model.specs.Record.{fateNumber, lossFate}
-use Rattle.model.specs.Answers.{causeNumber, ofArrival, ofSlot, ofMaking}
+use Rattle.model.specs.Answers.{causeNumber, ofMaking}
 use Rattle.model.specs.Port.{PortState, PortOutcome, arriveCall, endOfSlotCall}
 use Rattle.host.specs.Live.{mixed, mixedIn, callOf, heard, heardOf, HeardBelow}
 use Rattle.host.specs.Said.{codeOf}
@@ -92,30 +83,3 @@ pub heard-arrival : (port : PortState) (sum : ℕ) {total next : ℕ} (events : 
 unfolding callOf
 heard-arrival port sum events i inside outcome is event mixes so-far =
     rw mixes (goes-on port sum events i inside outcome (is ∙ sym (rw (ne-eqb _ _ event) refl)) so-far)
-
-module _ (sum : ℕ) {r : ℕ} where
-  pub of-held : {answer : ArrivalAnswer} (n : PacketNumber) → answer ≡ arrival.Held n → r ≡ mixed sum 0 0 (n .0) 0 0 → r ≡ mixedIn sum (ofArrival answer)
-  of-held n is mixes = rw is mixes
-
-  pub of-losing : {answer : ArrivalAnswer} {said : ℕ} (n : PacketNumber) (l : Loss) → answer ≡ arrival.HeldLosing n l → said ≡ fateNumber (lossFate (l .kind))
-      → r ≡ mixed sum said 0 (n .0) (l .packet .number .0) (l .packet .value) → r ≡ mixedIn sum (ofArrival answer)
-  of-losing n l is says mixes = rw is (mixes ∙ ap (λ (k : ℕ). mixed sum k 0 (n .0) (l .packet .number .0) (l .packet .value)) says)
-
-  pub of-rejected : {answer : ArrivalAnswer} {said : ℕ} (n : PacketNumber) → answer ≡ arrival.Rejected n → said ≡ fateNumber fates.Rejected
-      → r ≡ mixed sum said 0 (n .0) 0 0 → r ≡ mixedIn sum (ofArrival answer)
-  of-rejected n is says mixes = rw is (mixes ∙ ap (λ (k : ℕ). mixed sum k 0 (n .0) 0 0) says)
-
-  pub of-refused : {answer : ArrivalAnswer} {said : ℕ} (f : Refusal) → answer ≡ arrival.Refused f → said ≡ causeNumber (f .cause)
-      → r ≡ mixed sum said (f .place) 0 0 0 → r ≡ mixedIn sum (ofArrival answer)
-  of-refused f is says mixes = rw is (mixes ∙ ap (λ (k : ℕ). mixed sum k (f .place) 0 0 0) says)
-
-  pub of-sent : {answer : SlotAnswer} {said : ℕ} (p : Packet) → answer ≡ slot.Sent p → said ≡ fateNumber fates.Sent
-      → r ≡ mixed sum said 0 0 (p .number .0) (p .value) → r ≡ mixedIn sum (ofSlot answer)
-  of-sent p is says mixes = rw is (mixes ∙ ap (λ (k : ℕ). mixed sum k 0 0 (p .number .0) (p .value)) says)
-
-  pub of-idle : {answer : SlotAnswer} → answer ≡ slot.Idle → r ≡ mixed sum 0 0 0 0 0 → r ≡ mixedIn sum (ofSlot answer)
-  of-idle is mixes = rw is mixes
-
-  pub of-slot-refused : {answer : SlotAnswer} {said : ℕ} (f : Refusal) → answer ≡ slot.Refused f → said ≡ causeNumber (f .cause)
-      → r ≡ mixed sum said (f .place) 0 0 0 → r ≡ mixedIn sum (ofSlot answer)
-  of-slot-refused f is says mixes = rw is (mixes ∙ ap (λ (k : ℕ). mixed sum k (f .place) 0 0 0) says)

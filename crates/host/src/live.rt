@@ -3,30 +3,23 @@ ghost use mathlib.Core.Path.{_≡_};
 ghost use Prim.Native.Nat.{_<_, _^_};
 ghost use Rattle.model.specs.Answers.{ofArrival, ofSlot};
 ghost use Rattle.port.specs.State.{stateOf};
-ghost use Rattle.host.specs.Live.{mixed, mixedIn, heard};
+ghost use Rattle.host.specs.Live.{mixedIn, heard};
 use model::ArrivalAnswer;
-use model::Fate;
-use model::Packet;
-use model::PacketNumber;
+use model::PortReply;
 use model::SlotAnswer;
 use port::Port;
 
-const NOBODY: Packet = Packet {
-    number: PacketNumber(0),
-    value: 0,
-};
-
 // One answer's numbers mixed in.
-fn mix(sum: u64, said: u32, place: u32, given: PacketNumber, packet: Packet) -> u64
+fn mix(sum: u64, reply: PortReply) -> u64
     requires { ⌜ sum < 2 ^ 32 ⌝ }
-    ensures { λ r. ⌜ r ≡ mixed sum said place (given .0) (packet .number .0) (packet .value) ⌝ }
+    ensures { λ r. ⌜ r ≡ mixedIn sum reply ⌝ }
 {
     (sum * 31
-        + said as u64
-        + place as u64
-        + given.0 as u64 * 3
-        + packet.number.0 as u64 * 5
-        + packet.value as u64 * 7)
+        + reply.number as u64
+        + reply.place as u64
+        + reply.given.0 as u64 * 3
+        + reply.packet.number.0 as u64 * 5
+        + reply.packet.value as u64 * 7)
         % 4_294_967_296
 }
 
@@ -34,33 +27,14 @@ fn mix_arrival(sum: u64, answer: ArrivalAnswer) -> u64
     requires { ⌜ sum < 2 ^ 32 ⌝ }
     ensures { λ r. ⌜ r ≡ mixedIn sum (ofArrival answer) ⌝ }
 {
-    match answer {
-        ArrivalAnswer::Held(n) => mix(sum, 0, 0, n, NOBODY),
-        ArrivalAnswer::HeldLosing(n, loss) => {
-            let kind = loss.kind;
-            let fate = kind.fate();
-            mix(sum, fate.number(), 0, n, loss.packet)
-        }
-        ArrivalAnswer::Rejected(n) => mix(sum, Fate::Rejected.number(), 0, n, NOBODY),
-        ArrivalAnswer::Refused(refusal) => {
-            let cause = refusal.cause;
-            mix(sum, cause.number(), refusal.place, PacketNumber(0), NOBODY)
-        }
-    }
+    mix(sum, answer.reply())
 }
 
 fn mix_slot(sum: u64, answer: SlotAnswer) -> u64
     requires { ⌜ sum < 2 ^ 32 ⌝ }
     ensures { λ r. ⌜ r ≡ mixedIn sum (ofSlot answer) ⌝ }
 {
-    match answer {
-        SlotAnswer::Sent(p) => mix(sum, Fate::Sent.number(), 0, PacketNumber(0), p),
-        SlotAnswer::Idle => mix(sum, 0, 0, PacketNumber(0), NOBODY),
-        SlotAnswer::Refused(refusal) => {
-            let cause = refusal.cause;
-            mix(sum, cause.number(), refusal.place, PacketNumber(0), NOBODY)
-        }
-    }
+    mix(sum, answer.reply())
 }
 
 // 0 is an end of slot, any other number an arrival of that value.

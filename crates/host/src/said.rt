@@ -2,9 +2,11 @@
 ghost use mathlib.Core.Path.{_≡_};
 ghost use Prim.Native.Nat.{_<_};
 ghost use Rattle.model.specs.Answers.{ofRun, ofAudit};
-ghost use Rattle.host.specs.Said.{codeOf, tallied, told, SaidOfAudit};
+ghost use Rattle.host.specs.Said.{codeOf, tallied, told, givesTotals, SaidOfAudit};
 use entry::put;
 use model::AuditAnswer;
+use model::Fault;
+use model::Reply;
 use model::RunAnswer;
 use model::Tally;
 use model::Totals;
@@ -37,40 +39,41 @@ pub fn code(number: u32, place: u32) -> u64
     number as u64 * 4_294_967_296 + place as u64
 }
 
+// Whether a reply of this number has totals: 0 has, and so has a fault, whose totals are all 0.
+fn gives_totals(number: u32) -> bool
+    ensures { λ r. ⌜ r ≡ givesTotals number ⌝ }
+{
+    if number == 0 {
+        return true;
+    }
+    let first = Fault::FateOutside.number();
+    if number < first {
+        return false;
+    }
+    let last = Fault::OverRoom.number();
+    number <= last
+}
+
 // A refusal writes no totals.
+fn say(reply: Reply, totals: &mut [u32]) -> u64
+    ensures { λ r. ⌜ SaidOfAudit reply (now (totals .entry)) r (now (totals .exit)) ⌝ }
+{
+    let said = code(reply.number, reply.place);
+    if !gives_totals(reply.number) {
+        return said;
+    }
+    tell(totals, reply.totals);
+    said
+}
+
 pub fn say_run(answer: RunAnswer, totals: &mut [u32]) -> u64
     ensures { λ r. ⌜ SaidOfAudit (ofRun answer) (now (totals .entry)) r (now (totals .exit)) ⌝ }
 {
-    match answer {
-        RunAnswer::Ran(t) => {
-            tell(totals, t);
-            0
-        }
-        RunAnswer::Refused(refusal) => {
-            let cause = refusal.cause;
-            code(cause.number(), refusal.place)
-        }
-    }
+    say(answer.reply(), totals)
 }
 
-// A fault's totals are all 0; a refusal writes none.
 pub fn say_audit(answer: AuditAnswer, totals: &mut [u32]) -> u64
     ensures { λ r. ⌜ SaidOfAudit (ofAudit answer) (now (totals .entry)) r (now (totals .exit)) ⌝ }
 {
-    match answer {
-        AuditAnswer::Passed(t) => {
-            tell(totals, t);
-            0
-        }
-        AuditAnswer::Faulty(first) => {
-            tell(totals, Totals::none());
-            let fault = first.fault;
-            let packet = first.packet;
-            code(fault.number(), packet.0)
-        }
-        AuditAnswer::Refused(refusal) => {
-            let cause = refusal.cause;
-            code(cause.number(), refusal.place)
-        }
-    }
+    say(answer.reply(), totals)
 }
