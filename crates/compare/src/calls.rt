@@ -9,10 +9,10 @@ use crate::said::say_record;
 use crate::said::say_run;
 use audit::audit;
 use model::RunAnswer;
-use runs::greedy;
-use runs::mf;
-use runs::pg;
-use runs::plan;
+use runs_policy::mf;
+use runs_policy::plan;
+use runs_rule::greedy;
+use runs_rule::pg;
 
 // A policy or the offline plan.
 pub enum Call {

@@ -60,15 +60,15 @@ fn say_reply(sum: &mut u64, reply: Reply) {
 }
 
 pub fn say_run(sum: &mut u64, answer: RunAnswer) {
-    say_reply(sum, answer.reply());
+    say_reply(sum, replies::of_run(answer));
 }
 
 pub fn say_audit(sum: &mut u64, answer: AuditAnswer) {
-    say_reply(sum, answer.reply());
+    say_reply(sum, replies::of_audit(answer));
 }
 
 pub fn say_making(sum: &mut u64, answer: MakingAnswer) {
-    let reply = answer.reply();
+    let reply = replies::of_making(answer);
     say_place(sum, reply.number, reply.place);
 }
 
@@ -81,9 +81,9 @@ fn say_live(sum: &mut u64, reply: PortReply) {
 }
 
 pub fn say_arrival(sum: &mut u64, answer: ArrivalAnswer) {
-    say_live(sum, answer.reply());
+    say_live(sum, replies::of_arrival(answer));
 }
 
 pub fn say_slot(sum: &mut u64, answer: SlotAnswer) {
-    say_live(sum, answer.reply());
+    say_live(sum, replies::of_slot(answer));
 }

@@ -1,7 +1,6 @@
 -- What is heard of a making, of one event, and of each answer of a port. All that is heard is a remainder by 2 ^ 32.
 use Prim.Native.Nat.{ℕ, _+_, _<_, _≤_, _^_}
 use mathlib.Core.Path.{_≡_, refl, sym, _∙_}
-use mathlib.Core.Bool.{false}
 use mathlib.Core.List.{List, [], _∷_}
 use native.Mathlib.Numerals.{add-one}
 use native.Mathlib.Omega.{arith}
@@ -9,16 +8,11 @@ use lib.ListN.{length, getD, drop, drop-of-length-le}
 use lib.Seq.{drop-cons}
 use lib.Dec.{eqb}
 use borrow.Author.Tests.{eq-eqb, ne-eqb}
-use Rattle.model.specs.declared.Refusal.{Refusal}
-use Rattle.model.specs.declared.Cause.{Cause}
-use Rattle.model.specs.declared.Cause.the-variants as causes
 use Rattle.model.specs.declared.MakingAnswer.{MakingAnswer}
-use Rattle.model.specs.declared.MakingAnswer.the-variants as making
-use Rattle.model.specs.Answers.{causeNumber, ofMaking}
+use Rattle.model.specs.Answers.{PortReply, ofMaking}
 use Rattle.model.specs.Port.{PortState, PortOutcome, arriveCall, endOfSlotCall}
 use Rattle.host.specs.Live.{mixed, mixedIn, callOf, heard, heardOf, HeardBelow}
 use Rattle.host.specs.Said.{codeOf}
-use Rattle.host.proofs.Saying.{coded}
 
 pub mixed-fits : (sum said place given number value : ℕ) → mixed sum said place given number value < 2 ^ 32
 unfolding mixed
@@ -32,28 +26,16 @@ below port (event ∷ events) fits = below (callOf port event .port) events (mix
 pub heard-below : HeardBelow
 heard-below port events = below port events (omega arith)
 
--- a port that was made is fed; no refusal's number is 0
-pub of-made : {answer : MakingAnswer} {port : PortState} {outcome : PortOutcome} (events : List ℕ) {r : ℕ}
-    → record { reply = ofMaking answer; port = port } ≡ outcome → answer ≡ making.Made → r ≡ heard port 0 events → r ≡ heardOf outcome events
-unfolding heardOf
-of-made events is made hears = rw (← is) (rw made hears)
+-- a port that was made is fed, a refused making is coded
+module _ {answer : MakingAnswer} {port : PortState} {outcome : PortOutcome} {reply : PortReply} (events : List ℕ) {r : ℕ}
+    (is : record { reply = ofMaking answer; port = port } ≡ outcome) (says : reply ≡ ofMaking answer) where
+  pub of-made : reply .number ≡ 0 → r ≡ heard port 0 events → r ≡ heardOf outcome events
+  unfolding heardOf
+  of-made none hears = rw (← is, ← says, none) hears
 
-refuses : (cause : Cause) → eqb (causeNumber cause) 0 ≡ false
-refuses causes.Lengths = refl
-refuses causes.Packets = refl
-refuses causes.Room = refl
-refuses causes.Parameters = refl
-refuses causes.Slot = refl
-refuses causes.Value = refl
-refuses causes.Spent = refl
-refuses causes.Unsound = refl
-refuses causes.Text = refl
-
-pub of-not-made : {answer : MakingAnswer} (f : Refusal) {port : PortState} {outcome : PortOutcome} (events : List ℕ) {n r : ℕ}
-    → record { reply = ofMaking answer; port = port } ≡ outcome → answer ≡ making.Refused f → n ≡ causeNumber (f .cause) → r ≡ codeOf n (f .place)
-    → r ≡ heardOf outcome events
-unfolding heardOf
-of-not-made f events is refused says codes = rw (← is) (rw refused (rw (refuses (f .cause)) (coded (f .place) says codes)))
+  pub of-not-made : (reply .number ≡ 0 → ⊥) → r ≡ codeOf (reply .number) (reply .place) → r ≡ heardOf outcome events
+  unfolding heardOf
+  of-not-made some codes = rw (← is, ← says, ne-eqb (reply .number) 0 some) codes
 
 pub heard-done : (port : PortState) (sum : ℕ) (events : List ℕ) (i : ℕ) → length events ≤ i → heard port sum (drop i events) ≡ sum
 unfolding heard

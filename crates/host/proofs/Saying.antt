@@ -40,10 +40,6 @@ pub replied : {reply answered : Reply} {before after : List ℕ} {code : ℕ} �
     → SaidOfAudit answered before code after
 replied is says = rw (← is) says
 
--- the number of a refusal, as the code has it
-pub coded : {n number code : ℕ} (place : ℕ) → n ≡ number → code ≡ codeOf n place → code ≡ codeOf number place
-coded place same codes = codes ∙ ap (λ (k : ℕ). codeOf k place) same
-
 -- a call's outcome, said
 pub said : (answer : RunAnswer) {outcome : Outcome} {left : Lists} {before after : List ℕ} {code : ℕ}
     → record { reply = ofRun answer; lists = left } ≡ outcome → SaidOfAudit (ofRun answer) before code after

@@ -14,13 +14,13 @@ use crate::said::say_audit;
 use crate::said::say_run;
 use audit::audit;
 use model::Beta;
-use model::MakingAnswer;
 use model::Marking;
 use port::Port;
-use runs::greedy;
-use runs::mf;
-use runs::pg;
-use runs::plan;
+use replies::of_making;
+use runs_policy::mf;
+use runs_policy::plan;
+use runs_rule::greedy;
+use runs_rule::pg;
 
 // Plain greedy. Every call answers 0 and writes its totals, or it answers a refusal's number times 2^32 and its place, and writes nothing.
 #[no_mangle]
@@ -127,12 +127,9 @@ pub extern "C" fn host_port(events: &[u32], room: usize, num: u32, den: u32) -> 
     ensures { λ r. ⌜ r ≡ heardOf (makeCall room (betaOf num den)) (now (events .entry)) ⌝ }
 {
     let made = Port::new(room, Beta { num, den });
-    let answer = made.answer;
-    match answer {
-        MakingAnswer::Made => feed(made.port, events),
-        MakingAnswer::Refused(refusal) => {
-            let cause = refusal.cause;
-            code(cause.number(), refusal.place)
-        }
+    let reply = of_making(made.answer);
+    if reply.number != 0 {
+        return code(reply.number, reply.place);
     }
+    feed(made.port, events)
 }

@@ -8,6 +8,8 @@ use model::ArrivalAnswer;
 use model::PortReply;
 use model::SlotAnswer;
 use port::Port;
+use replies::of_arrival;
+use replies::of_slot;
 
 // One answer's numbers mixed in.
 fn mix(sum: u64, reply: PortReply) -> u64
@@ -27,14 +29,14 @@ fn mix_arrival(sum: u64, answer: ArrivalAnswer) -> u64
     requires { ⌜ sum < 2 ^ 32 ⌝ }
     ensures { λ r. ⌜ r ≡ mixedIn sum (ofArrival answer) ⌝ }
 {
-    mix(sum, answer.reply())
+    mix(sum, of_arrival(answer))
 }
 
 fn mix_slot(sum: u64, answer: SlotAnswer) -> u64
     requires { ⌜ sum < 2 ^ 32 ⌝ }
     ensures { λ r. ⌜ r ≡ mixedIn sum (ofSlot answer) ⌝ }
 {
-    mix(sum, answer.reply())
+    mix(sum, of_slot(answer))
 }
 
 // 0 is an end of slot, any other number an arrival of that value.

@@ -10,6 +10,8 @@ use model::Reply;
 use model::RunAnswer;
 use model::Tally;
 use model::Totals;
+use replies::of_audit;
+use replies::of_run;
 
 fn put_tally(list: &mut [u32], place: usize, tally: Tally)
     requires { ⌜ place < 12 ⌝ }
@@ -69,11 +71,11 @@ fn say(reply: Reply, totals: &mut [u32]) -> u64
 pub fn say_run(answer: RunAnswer, totals: &mut [u32]) -> u64
     ensures { λ r. ⌜ SaidOfAudit (ofRun answer) (now (totals .entry)) r (now (totals .exit)) ⌝ }
 {
-    say(answer.reply(), totals)
+    say(of_run(answer), totals)
 }
 
 pub fn say_audit(answer: AuditAnswer, totals: &mut [u32]) -> u64
     ensures { λ r. ⌜ SaidOfAudit (ofAudit answer) (now (totals .entry)) r (now (totals .exit)) ⌝ }
 {
-    say(answer.reply(), totals)
+    say(of_audit(answer), totals)
 }

@@ -12,6 +12,7 @@ use model::Cause;
 use output::put;
 use output::put_line;
 use output::put_refusal;
+use replies::of_audit;
 
 const HEADER: [u8; 60] = *b"sent,value,rejected,pushed out,preempted,flushed,most held\r\n";
 
@@ -43,7 +44,7 @@ fn say(
     requires { ⌜ 209 ≤ length (now out) ⌝ }
     ensures { λ r. ⌜ WroteIn out r 0 (verdictText (auditCall (now (slots .entry)) (now (values .entry)) room (listsBefore fates whens bys))) ⌝ }
 {
-    let reply = audit::audit(slots, values, room, fates, whens, bys).reply();
+    let reply = of_audit(audit::audit(slots, values, room, fates, whens, bys));
     if reply.number != 0 {
         return put_refusal(out, reply.number as u64, reply.place as u64);
     }

@@ -3,7 +3,7 @@
 use Prim.Native.Nat.{ℕ, zero, suc, _+_, _≤_, _<_, max}
 use native.Mathlib.Nat.{le-refl, le-of-suc-le-suc}
 use native.Mathlib.Omega.{arith}
-use mathlib.Core.Path.{_≡_, refl}
+use mathlib.Core.Path.{_≡_, refl, sym, ap}
 use mathlib.Core.Bool.{Bool, true, _&&_, and-eq-true-iff, _||_}
 use mathlib.Core.List.{List, [], _∷_}
 use lib.ListN.{length, getD}
@@ -14,11 +14,15 @@ use Rattle.model.specs.declared.Slot.{Slot}
 use Rattle.model.specs.Limits.{recordLimits, portLimits, within}
 use Rattle.model.specs.Packets.{arrivalsFrom}
 use Rattle.model.specs.Record.{Lists}
-use Rattle.model.specs.Rules.{Verdict}
+use Rattle.model.specs.Rules.{Verdict, clear}
 use Rattle.model.specs.Refusals.{slotOk, valueOk, loOrHi, packetRefusalFrom, traceRefusal, plainRefusal, pgRefusal, mfRefusal}
 use Rattle.model.specs.declared.Marking.{Marking}
 use Rattle.laws.specs.Accepted.{Packets, Comes, Accepted}
 use Rattle.laws.proofs.FirstFault.{orElse-zero, verdictIf-zero}
+
+-- a verdict that is clear has number 0
+pub clear-number : (v : Verdict) → clear ≡ v → v .number ≡ 0
+clear-number v e = ap (λ (w : Verdict). w .number) (sym e)
 
 -- the parts of a slot's test
 record SlotFits (before s : ℕ) : Type 0 where

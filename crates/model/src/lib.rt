@@ -5,7 +5,6 @@ ghost use Rattle.model.specs.Numbers.{fateNumber, causeNumber, faultNumb
 ghost use Rattle.model.specs.Record.{lossFate};
 ghost use Rattle.model.specs.Totals.{noTotals};
 ghost use Rattle.model.specs.Packets.{nobody as noPacket};
-ghost use Rattle.model.specs.Answers.{ofRun, ofAudit, ofArrival, ofSlot, ofMaking, portSays, portRefused};
 
 // The number of a packet, from 1; 0 where there is none. The index of document 000.
 pub struct PacketNumber(pub u32);
@@ -254,60 +253,10 @@ pub struct PortReply {
     pub packet: Packet,
 }
 
-impl PortReply {
-    // A live call that was not refused.
-    fn says(number: u32, given: PacketNumber, packet: Packet) -> PortReply
-        ensures { λ r. ⌜ r ≡ portSays number given packet ⌝ }
-    {
-        PortReply {
-            number,
-            place: 0,
-            given,
-            packet,
-        }
-    }
-
-    // A refusal of a live call.
-    fn refused(refusal: Refusal) -> PortReply
-        ensures { λ r. ⌜ r ≡ portRefused (causeNumber (refusal .cause)) (refusal .place) ⌝ }
-    {
-        let cause = refusal.cause;
-        PortReply {
-            number: cause.number(),
-            place: refusal.place,
-            given: PacketNumber(0),
-            packet: Packet::nobody(),
-        }
-    }
-}
-
 // What a policy or the offline plan answers.
 pub enum RunAnswer {
     Ran(Totals),
     Refused(Refusal),
-}
-
-impl RunAnswer {
-    // What it says in 01's numbers.
-    pub fn reply(self) -> Reply
-        ensures { λ r. ⌜ r ≡ ofRun self ⌝ }
-    {
-        match self {
-            RunAnswer::Ran(totals) => Reply {
-                number: 0,
-                place: 0,
-                totals,
-            },
-            RunAnswer::Refused(refusal) => {
-                let cause = refusal.cause;
-                Reply {
-                    number: cause.number(),
-                    place: refusal.place,
-                    totals: Totals::none(),
-                }
-            }
-        }
-    }
 }
 
 // What the audit answers. Where it names a fault its totals are all 0.
@@ -315,36 +264,6 @@ pub enum AuditAnswer {
     Passed(Totals),
     Faulty(FirstFault),
     Refused(Refusal),
-}
-
-impl AuditAnswer {
-    pub fn reply(self) -> Reply
-        ensures { λ r. ⌜ r ≡ ofAudit self ⌝ }
-    {
-        match self {
-            AuditAnswer::Passed(totals) => Reply {
-                number: 0,
-                place: 0,
-                totals,
-            },
-            AuditAnswer::Faulty(first) => {
-                let fault = first.fault;
-                Reply {
-                    number: fault.number(),
-                    place: first.packet.0,
-                    totals: Totals::none(),
-                }
-            }
-            AuditAnswer::Refused(refusal) => {
-                let cause = refusal.cause;
-                Reply {
-                    number: cause.number(),
-                    place: refusal.place,
-                    totals: Totals::none(),
-                }
-            }
-        }
-    }
 }
 
 // What a live arrival answers, with the number that the packet was given.
@@ -355,25 +274,6 @@ pub enum ArrivalAnswer {
     Refused(Refusal),
 }
 
-impl ArrivalAnswer {
-    pub fn reply(self) -> PortReply
-        ensures { λ r. ⌜ r ≡ ofArrival self ⌝ }
-    {
-        match self {
-            ArrivalAnswer::Held(given) => PortReply::says(0, given, Packet::nobody()),
-            ArrivalAnswer::HeldLosing(given, loss) => {
-                let kind = loss.kind;
-                let fate = kind.fate();
-                PortReply::says(fate.number(), given, loss.packet)
-            }
-            ArrivalAnswer::Rejected(given) => {
-                PortReply::says(Fate::Rejected.number(), given, Packet::nobody())
-            }
-            ArrivalAnswer::Refused(refusal) => PortReply::refused(refusal),
-        }
-    }
-}
-
 // What a live end of slot answers.
 pub enum SlotAnswer {
     Sent(Packet),
@@ -381,33 +281,8 @@ pub enum SlotAnswer {
     Refused(Refusal),
 }
 
-impl SlotAnswer {
-    pub fn reply(self) -> PortReply
-        ensures { λ r. ⌜ r ≡ ofSlot self ⌝ }
-    {
-        match self {
-            SlotAnswer::Sent(packet) => {
-                PortReply::says(Fate::Sent.number(), PacketNumber(0), packet)
-            }
-            SlotAnswer::Idle => PortReply::says(0, PacketNumber(0), Packet::nobody()),
-            SlotAnswer::Refused(refusal) => PortReply::refused(refusal),
-        }
-    }
-}
-
 // What the making of a port answers.
 pub enum MakingAnswer {
     Made,
     Refused(Refusal),
-}
-
-impl MakingAnswer {
-    pub fn reply(self) -> PortReply
-        ensures { λ r. ⌜ r ≡ ofMaking self ⌝ }
-    {
-        match self {
-            MakingAnswer::Made => PortReply::says(0, PacketNumber(0), Packet::nobody()),
-            MakingAnswer::Refused(refusal) => PortReply::refused(refusal),
-        }
-    }
 }

@@ -80,14 +80,13 @@ pub fn write_rows(
     let mut end = at;
     let mut i = 0;
     while i < slots.len() {
-        let row = [
-            (i + 1) as u64,
-            slots[i] as u64,
-            values[i] as u64,
-            fates[i] as u64,
-            whens[i] as u64,
-            bys[i] as u64,
-        ];
+        let number = (i + 1) as u64;
+        let slot = slots[i] as u64;
+        let value = values[i] as u64;
+        let fate = fates[i] as u64;
+        let when = whens[i] as u64;
+        let by = bys[i] as u64;
+        let row = [number, slot, value, fate, when, by];
         end = write_line(out, end, &row);
         i += 1;
     }

@@ -21,6 +21,7 @@ use output::OUTPUT;
 use output::put;
 use output::put_refusal;
 use output::put_rows;
+use replies::of_run;
 use rows::Rows;
 use signs::LINE_END;
 use signs::RECORD;
@@ -56,10 +57,10 @@ pub fn call(
     ensures { λ r. ⌜ outcome r (listsAfter fates whens bys) ≡ callOf policy room (was slots) (was values) (listsBefore fates whens bys) ⌝ }
 {
     match policy {
-        Policy::Greedy => runs::greedy(slots, values, room, fates, whens, bys),
-        Policy::Pg(beta) => runs::pg(slots, values, room, beta, fates, whens, bys),
-        Policy::Mf(m) => runs::mf(slots, values, room, m, fates, whens, bys),
-        Policy::Plan => runs::plan(slots, values, room, fates, whens, bys),
+        Policy::Greedy => runs_rule::greedy(slots, values, room, fates, whens, bys),
+        Policy::Pg(beta) => runs_rule::pg(slots, values, room, beta, fates, whens, bys),
+        Policy::Mf(m) => runs_policy::mf(slots, values, room, m, fates, whens, bys),
+        Policy::Plan => runs_policy::plan(slots, values, room, fates, whens, bys),
     }
 }
 
@@ -116,7 +117,7 @@ fn say(
     requires { ⌜ outputLimit ≤ length (now out) ⌝ }
     ensures { λ r. ⌜ WroteIn out r 0 (calledText policy room (was slots) (was values) (listsBefore fates whens bys)) ⌝ }
 {
-    let reply = call(policy, room, slots, values, fates, whens, bys).reply();
+    let reply = of_run(call(policy, room, slots, values, fates, whens, bys));
     if reply.number != 0 {
         return put_refusal(out, reply.number as u64, reply.place as u64);
     }
@@ -134,7 +135,7 @@ pub fn run(policy: Policy, room: usize, slots: &[u32], values: &[u32], out: &mut
     }
     let n = slots.len();
     if Record::PACKETS < n {
-        let reply = too_many(n, values.len()).reply();
+        let reply = of_run(too_many(n, values.len()));
         return put_refusal(out, reply.number as u64, reply.place as u64);
     }
     let mut fates = [0u32; Record::PACKETS];

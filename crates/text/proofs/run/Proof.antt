@@ -17,8 +17,8 @@ returns c =
 too-many-requires : tie.Need-too-many-requires
 too-many-requires c κs = search needs
 
-reply-requires : tie.Need-reply-requires
-reply-requires c κs = search needs
+of-run-requires : tie.Need-of-run-requires
+of-run-requires c κs = search needs
 
 cast-put-refusal : tie.Need-cast-put-refusal
 cast-put-refusal c = search needs
@@ -35,7 +35,7 @@ same-length c = search needs
 returns-2 : tie.Need-returns-2
 returns-2 c =
     let a = c .before .before .before .before .before .before .before .before .before .before .before .before .before .args in
-    let said = over-said (a .policy) (a .room) (a .slots .now) (a .values .now) (c .before .before .before .before .before .before .before .before .if2 .taken) (c .before .before .before .before .before .before .reply .ensures ∙ c .before .before .before .before .before .before .before .too-many .ensures) in
+    let said = over-said (a .policy) (a .room) (a .slots .now) (a .values .now) (c .before .before .before .before .before .before .before .before .if2 .taken) (c .before .before .before .before .before .before .of-run .ensures ∙ c .before .before .before .before .before .before .before .too-many .ensures) in
     let spoken = spoken-all (a .policy) (a .room) (a .slots .now) (a .values .now) (a .out .now) (c .before .before .before .before .before .before .before .before .before .if1 .left) in
     wrote-same (said ∙ spoken) refl (c .before .before .put-refusal .ensures .fits (omega (arith, c .before .before .before .before .before .before .before .before .before .if1 .left)))
 
@@ -76,7 +76,7 @@ run-spec =
     (tie.spec
     returns
     too-many-requires
-    reply-requires
+    of-run-requires
     cast-put-refusal
     cast-put-refusal-2
     put-refusal-requires

@@ -12,8 +12,8 @@ use Rattle.text.proofs.say.Tie as tie
 call-requires : tie.Need-call-requires
 call-requires c κs = search needs
 
-reply-requires : tie.Need-reply-requires
-reply-requires c κs = search needs
+of-run-requires : tie.Need-of-run-requires
+of-run-requires c κs = search needs
 
 cast-put-refusal : tie.Need-cast-put-refusal
 cast-put-refusal c = search needs
@@ -40,7 +40,7 @@ returns : tie.Need-returns
 returns c =
     let start = c .before .before .before .before .before .before .before .before .before .before .before .before .before .before .before .before .before .before .before .before .before .before .before .before .before in
     let a = start .args in
-    wrote-same (call-refused (a .policy) (a .room) (a .slots .now) (a .values .now) _ (c .before .before .before .before .before .before .before .before .before .before .before .before .before .before .before .call .result) (c .before .before .before .before .before .before .before .before .before .before .before .before .before .before .before .call .ensures) (c .before .before .before .before .before .before .before .before .reply .ensures) (c .before .before .before .before .before .before .if1 .taken)) refl (c .before .before .put-refusal .ensures .fits (omega (arith, start .pre .1)))
+    wrote-same (call-refused (a .policy) (a .room) (a .slots .now) (a .values .now) _ (c .before .before .before .before .before .before .before .before .before .before .before .before .before .before .before .call .result) (c .before .before .before .before .before .before .before .before .before .before .before .before .before .before .before .call .ensures) (c .before .before .before .before .before .before .before .before .of-run .ensures) (c .before .before .before .before .before .before .if1 .taken)) refl (c .before .before .put-refusal .ensures .fits (omega (arith, start .pre .1)))
 
 slice-aggregate-put : tie.Need-slice-aggregate-put
 slice-aggregate-put c = search needs
@@ -75,8 +75,8 @@ returns-2 c =
     let a = start .args in
     let call = c .before .before .before .before .before .before .before .before .before .before .before .before .before .before .before .before .before .before .before .before .before .before .before .before .before .before .call in
     let none = c .before .before .before .before .before .before .before .before .before .before .before .before .before .before .before .before .before .if1 .left in
-    let same = same-kept (call-same (a .policy) (a .room) (a .slots .now) (a .values .now) _ (call .result) (call .ensures) (c .before .before .before .before .before .before .before .before .before .before .before .before .before .before .before .before .before .before .before .reply .ensures) none) (call .kept .1 .1 .1 .1 .0) (call .kept .1 .1 .1 .1 .1 .0) (call .kept .1 .1 .1 .1 .1 .1 .0) in
-    let said = call-ran (a .policy) (a .room) (a .slots .now) (a .values .now) _ (call .result) (call .ensures) (c .before .before .before .before .before .before .before .before .before .before .before .before .before .before .before .before .before .before .before .reply .ensures) none in
+    let same = same-kept (call-same (a .policy) (a .room) (a .slots .now) (a .values .now) _ (call .result) (call .ensures) (c .before .before .before .before .before .before .before .before .before .before .before .before .before .before .before .before .before .before .before .of-run .ensures) none) (call .kept .1 .1 .1 .1 .0) (call .kept .1 .1 .1 .1 .1 .0) (call .kept .1 .1 .1 .1 .1 .1 .0) in
+    let said = call-ran (a .policy) (a .room) (a .slots .now) (a .values .now) _ (call .result) (call .ensures) (c .before .before .before .before .before .before .before .before .before .before .before .before .before .before .before .before .before .before .before .of-run .ensures) none in
     wrote-same said refl (put-rows-behind refl refl (omega (arith, start .pre .0, start .pre .1)) refl (c .before .before .before .before .before .before .before .before .before .before .before .before .before .before .put .ensures) (c .before .before .before .before .before .before .before .before .before .put2 .ensures) (c .before .before .put-rows .ensures) same)
 
 pub say-spec : {M : Type 1} → statement M
@@ -84,7 +84,7 @@ say-spec =
     tie.close
     (tie.spec
     call-requires
-    reply-requires
+    of-run-requires
     cast-put-refusal
     cast-put-refusal-2
     put-refusal-requires

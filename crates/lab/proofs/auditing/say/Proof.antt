@@ -16,8 +16,8 @@ use Rattle.lab.proofs.auditing.say.Tie as tie
 audit-requires : tie.Need-audit-requires
 audit-requires c κs = search needs
 
-reply-requires : tie.Need-reply-requires
-reply-requires c κs = search needs
+of-audit-requires : tie.Need-of-audit-requires
+of-audit-requires c κs = search needs
 
 cast-put-refusal : tie.Need-cast-put-refusal
 cast-put-refusal c = search needs
@@ -32,7 +32,7 @@ same-length : tie.Need-same-length
 same-length c = search needs
 
 returns : tie.Need-returns
-returns c = wrote-same (verdict-some (c .before .before .before .before .before .before .before .before .before .audit .result) (c .before .before .before .before .before .before .before .before .before .audit .ensures) (c .before .before .before .before .before .before .before .before .reply .ensures) (c .before .before .before .before .before .before .if1 .taken)) refl (c .before .before .put-refusal .ensures .fits (omega (arith, c .before .before .before .before .before .before .before .before .before .before .before .before .before .before .before .before .pre)))
+returns c = wrote-same (verdict-some (c .before .before .before .before .before .before .before .before .before .audit .result) (c .before .before .before .before .before .before .before .before .before .audit .ensures) (c .before .before .before .before .before .before .before .before .of-audit .ensures) (c .before .before .before .before .before .before .if1 .taken)) refl (c .before .before .put-refusal .ensures .fits (omega (arith, c .before .before .before .before .before .before .before .before .before .before .before .before .before .before .before .before .pre)))
 
 counts-of-requires : tie.Need-counts-of-requires
 counts-of-requires c κs = search needs
@@ -57,14 +57,14 @@ returns-2 c =
     let seven = ap length (c .before .before .before .before .before .before .before .before .before .before .counts-of .ensures) in
     let head = c .before .before .before .before .before .before .before .put .ensures .fits (omega (arith, c .before .before .before .before .before .before .before .before .before .before .before .before .before .before .before .before .before .before .before .before .before .pre)) in
     let line = c .before .before .put-line .ensures .fits (omega (arith, c .before .before .before .before .before .before .before .before .before .before .before .before .before .before .before .before .before .before .before .before .before .pre, head .behind, wrote-long head)) in
-    wrote-same (ap (λ (counts : List ℕ). auditHeader ++ lineWith counts) (c .before .before .before .before .before .before .before .before .before .before .counts-of .ensures) ∙ verdict-passed (c .before .before .before .before .before .before .before .before .before .before .before .before .before .before .audit .result) (c .before .before .before .before .before .before .before .before .before .before .before .before .before .before .audit .ensures) (c .before .before .before .before .before .before .before .before .before .before .before .before .before .reply .ensures) (c .before .before .before .before .before .before .before .before .before .before .before .if1 .left)) refl (wrote-both head line)
+    wrote-same (ap (λ (counts : List ℕ). auditHeader ++ lineWith counts) (c .before .before .before .before .before .before .before .before .before .before .counts-of .ensures) ∙ verdict-passed (c .before .before .before .before .before .before .before .before .before .before .before .before .before .before .audit .result) (c .before .before .before .before .before .before .before .before .before .before .before .before .before .before .audit .ensures) (c .before .before .before .before .before .before .before .before .before .before .before .before .before .of-audit .ensures) (c .before .before .before .before .before .before .before .before .before .before .before .if1 .left)) refl (wrote-both head line)
 
 pub say-spec : {M : Type 1} → statement M
 say-spec =
     tie.close
     (tie.spec
     audit-requires
-    reply-requires
+    of-audit-requires
     cast-put-refusal
     cast-put-refusal-2
     put-refusal-requires

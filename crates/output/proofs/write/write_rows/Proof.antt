@@ -21,53 +21,53 @@ loop-holds c =
     let a = c .before .before .before .before .before .before .args in
     (omega arith, omega (arith, c .before .before .before .before .before .before .pre .1), left-all (a .at) _ (a .out .now))
 
-add-t11 : tie.Need-add-t11 Inv-loop μ-loop
-add-t11 c = omega arith
+add-number : tie.Need-add-number Inv-loop μ-loop
+add-number c = omega arith
 
-mul-t14 : tie.Need-mul-t14 Inv-loop μ-loop
-mul-t14 c = omega arith
+mul-slot : tie.Need-mul-slot Inv-loop μ-loop
+mul-slot c = omega arith
 
-shared-slice-read-t16 : tie.Need-shared-slice-read-t16 Inv-loop μ-loop
-shared-slice-read-t16 c = omega arith
+shared-slice-read-slot : tie.Need-shared-slice-read-slot Inv-loop μ-loop
+shared-slice-read-slot c = omega arith
 
-cast-t17 : tie.Need-cast-t17 Inv-loop μ-loop
-cast-t17 c = omega (arith, c .shared-slice-known6 .given (c .before .before .loop .i))
+cast-slot : tie.Need-cast-slot Inv-loop μ-loop
+cast-slot c = omega (arith, c .shared-slice-known6 .given (c .before .before .loop .i))
 
-mul-t18 : tie.Need-mul-t18 Inv-loop μ-loop
-mul-t18 c = omega (arith, c .before .before .before .before .before .before .before .before .before .pre .0 .of-values)
+mul-value : tie.Need-mul-value Inv-loop μ-loop
+mul-value c = omega (arith, c .before .before .before .before .before .before .before .before .before .pre .0 .of-values)
 
-shared-slice-read-t20 : tie.Need-shared-slice-read-t20 Inv-loop μ-loop
-shared-slice-read-t20 c = omega (arith, c .before .before .before .before .before .before .before .before .before .before .pre .0 .of-values)
+shared-slice-read-value : tie.Need-shared-slice-read-value Inv-loop μ-loop
+shared-slice-read-value c = omega (arith, c .before .before .before .before .before .before .before .before .before .before .pre .0 .of-values)
 
-cast-t21 : tie.Need-cast-t21 Inv-loop μ-loop
-cast-t21 c = omega (arith, c .shared-slice-known7 .given (c .before .before .before .loop .i))
+cast-value : tie.Need-cast-value Inv-loop μ-loop
+cast-value c = omega (arith, c .shared-slice-known7 .given (c .before .before .before .loop .i))
 
-mul-t22 : tie.Need-mul-t22 Inv-loop μ-loop
-mul-t22 c = omega (arith, c .before .before .before .before .before .before .before .before .before .before .pre .0 .of-fates)
+mul-fate : tie.Need-mul-fate Inv-loop μ-loop
+mul-fate c = omega (arith, c .before .before .before .before .before .before .before .before .before .before .pre .0 .of-fates)
 
-shared-slice-read-t24 : tie.Need-shared-slice-read-t24 Inv-loop μ-loop
-shared-slice-read-t24 c = omega (arith, c .before .before .before .before .before .before .before .before .before .before .before .pre .0 .of-fates)
+shared-slice-read-fate : tie.Need-shared-slice-read-fate Inv-loop μ-loop
+shared-slice-read-fate c = omega (arith, c .before .before .before .before .before .before .before .before .before .before .before .pre .0 .of-fates)
 
-cast-t25 : tie.Need-cast-t25 Inv-loop μ-loop
-cast-t25 c = omega (arith, c .shared-slice-known8 .given (c .before .before .before .before .loop .i))
+cast-fate : tie.Need-cast-fate Inv-loop μ-loop
+cast-fate c = omega (arith, c .shared-slice-known8 .given (c .before .before .before .before .loop .i))
 
-mul-t26 : tie.Need-mul-t26 Inv-loop μ-loop
-mul-t26 c = omega (arith, c .before .before .before .before .before .before .before .before .before .before .before .pre .0 .of-whens)
+mul-when : tie.Need-mul-when Inv-loop μ-loop
+mul-when c = omega (arith, c .before .before .before .before .before .before .before .before .before .before .before .pre .0 .of-whens)
 
-shared-slice-read-t28 : tie.Need-shared-slice-read-t28 Inv-loop μ-loop
-shared-slice-read-t28 c = omega (arith, c .before .before .before .before .before .before .before .before .before .before .before .before .pre .0 .of-whens)
+shared-slice-read-when : tie.Need-shared-slice-read-when Inv-loop μ-loop
+shared-slice-read-when c = omega (arith, c .before .before .before .before .before .before .before .before .before .before .before .before .pre .0 .of-whens)
 
-cast-t29 : tie.Need-cast-t29 Inv-loop μ-loop
-cast-t29 c = omega (arith, c .shared-slice-known9 .given (c .before .before .before .before .before .loop .i))
+cast-when : tie.Need-cast-when Inv-loop μ-loop
+cast-when c = omega (arith, c .shared-slice-known9 .given (c .before .before .before .before .before .loop .i))
 
-mul-t30 : tie.Need-mul-t30 Inv-loop μ-loop
-mul-t30 c = omega (arith, c .before .before .before .before .before .before .before .before .before .before .before .before .pre .0 .of-bys)
+mul-by : tie.Need-mul-by Inv-loop μ-loop
+mul-by c = omega (arith, c .before .before .before .before .before .before .before .before .before .before .before .before .pre .0 .of-bys)
 
-shared-slice-read-t32 : tie.Need-shared-slice-read-t32 Inv-loop μ-loop
-shared-slice-read-t32 c = omega (arith, c .before .before .before .before .before .before .before .before .before .before .before .before .before .pre .0 .of-bys)
+shared-slice-read-by : tie.Need-shared-slice-read-by Inv-loop μ-loop
+shared-slice-read-by c = omega (arith, c .before .before .before .before .before .before .before .before .before .before .before .before .before .pre .0 .of-bys)
 
-cast-t33 : tie.Need-cast-t33 Inv-loop μ-loop
-cast-t33 c = omega (arith, c .shared-slice-known10 .given (c .before .before .before .before .before .before .loop .i))
+cast-by : tie.Need-cast-by Inv-loop μ-loop
+cast-by c = omega (arith, c .shared-slice-known10 .given (c .before .before .before .before .before .before .loop .i))
 
 slice-aggregate-write-line : tie.Need-slice-aggregate-write-line Inv-loop μ-loop
 slice-aggregate-write-line c = search needs
@@ -106,22 +106,22 @@ write-rows-spec =
     Inv-loop
     μ-loop
     loop-holds
-    add-t11
-    mul-t14
-    shared-slice-read-t16
-    cast-t17
-    mul-t18
-    shared-slice-read-t20
-    cast-t21
-    mul-t22
-    shared-slice-read-t24
-    cast-t25
-    mul-t26
-    shared-slice-read-t28
-    cast-t29
-    mul-t30
-    shared-slice-read-t32
-    cast-t33
+    add-number
+    mul-slot
+    shared-slice-read-slot
+    cast-slot
+    mul-value
+    shared-slice-read-value
+    cast-value
+    mul-fate
+    shared-slice-read-fate
+    cast-fate
+    mul-when
+    shared-slice-read-when
+    cast-when
+    mul-by
+    shared-slice-read-by
+    cast-by
     slice-aggregate-write-line
     write-line-requires
     add-i

@@ -1,5 +1,0 @@
-pub mod Empty
-pub mod Lifted
-pub mod Turning
-pub mod Running
-pub mod Ready

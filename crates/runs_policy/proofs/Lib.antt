@@ -1,0 +1,4 @@
+pub mod Lifted
+pub mod Turning
+pub mod Running
+pub mod Ready
