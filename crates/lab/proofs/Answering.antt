@@ -9,7 +9,7 @@ use Rattle.model.specs.Record.{listsOf}
 use Rattle.output.specs.Output.{outputLimit}
 use Rattle.output.specs.Writing.{Wrote}
 use Rattle.output.proofs.Writing.{wrote-same}
-use Rattle.text.specs.declared.Policy.{Policy}
+use Rattle.runs.specs.declared.Policy.{Policy}
 use Rattle.lab.specs.declared.jobs.Job.{Job}
 use Rattle.lab.specs.declared.jobs.Job.the-variants.{Run, Table, Audit, None}
 use Rattle.text.specs.Run.{runText, runSpoken}

@@ -16,8 +16,8 @@ use Rattle.output.specs.Output.{decimal}
 use Rattle.output.specs.Writing.{Wrote, Put}
 use Rattle.output.proofs.Writing.{Left, left-byte, left-wrote, wrote-both, decimal-length}
 use Rattle.model.specs.declared.Marking.{Marking}
-use Rattle.text.specs.declared.Policy.{Policy}
-use Rattle.text.specs.declared.Policy.the-variants.{Greedy, Pg, Mf, Plan}
+use Rattle.runs.specs.declared.Policy.{Policy}
+use Rattle.runs.specs.declared.Policy.the-variants.{Greedy, PG, MF, Plan}
 use Rattle.lab.specs.Line.{space, slash, nameOf, countsOf, behindCommas, thousandths, partOf, lineOf}
 
 pub record Near (most at : ℕ) (text out : List ℕ) (next : ℕ) (out′ : List ℕ) : Type 0 where
@@ -83,10 +83,10 @@ module _ (at : ℕ) (numbers out : List ℕ) (end : ℕ) (out′ : List ℕ) (i 
 
 -- the names that hold numbers
 module _ (policy : Policy) where
-  pub pg-name : (beta : Beta) → policy ≡ Pg beta → (((112 ∷ 103 ∷ space ∷ []) ++ decimal (beta .num)) ++ (slash ∷ [])) ++ decimal (beta .den) ≡ nameOf policy
+  pub pg-name : (beta : Beta) → policy ≡ PG beta → (((112 ∷ 103 ∷ space ∷ []) ++ decimal (beta .num)) ++ (slash ∷ [])) ++ decimal (beta .den) ≡ nameOf policy
   pg-name beta is = rw is (simp append-assoc)
 
-  pub mf-name : (m : Marking) → policy ≡ Mf m
+  pub mf-name : (m : Marking) → policy ≡ MF m
       → (((((109 ∷ 102 ∷ space ∷ []) ++ decimal (m .lo)) ++ (space ∷ [])) ++ decimal (m .hi)) ++ (space ∷ [])) ++ decimal (m .r) ≡ nameOf policy
   mf-name m is = rw is (simp append-assoc)
 
@@ -108,9 +108,9 @@ module _ (value plan : ℕ) where
 -- a name is at most 65 bytes long
 pub name-length : (policy : Policy) → length (nameOf policy) ≤ 65
 name-length Greedy = omega arith
-name-length (Pg beta) =
+name-length (PG beta) =
     simp length-append (omega (arith, decimal-length (beta .num), decimal-length (beta .den)))
-name-length (Mf m) =
+name-length (MF m) =
     simp length-append (omega (arith, decimal-length (m .lo), decimal-length (m .hi), decimal-length (m .r)))
 name-length Plan = omega arith
 

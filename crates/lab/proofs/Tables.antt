@@ -20,11 +20,11 @@ use Rattle.trace.proofs.Laws.{cause-refuses}
 use Rattle.output.specs.Output.{refusalText}
 use Rattle.output.specs.Writing.{Wrote}
 use Rattle.output.proofs.Writing.{wrote-same, wrote-both}
-use Rattle.text.specs.declared.Policy.{Policy}
-use Rattle.text.specs.declared.Policy.the-variants.{Greedy, Pg, Mf, Plan}
+use Rattle.runs.specs.declared.Policy.{Policy}
+use Rattle.runs.specs.declared.Policy.the-variants.{Greedy, PG, MF, Plan}
 use Rattle.lab.specs.declared.table.Lined.{Lined}
 use Rattle.lab.specs.declared.table.Lined.the-variants as lined
-use Rattle.text.specs.Run.{replyOf}
+use Rattle.runs.specs.Policy.{replyOf}
 use Rattle.lab.specs.Line.{lineOf}
 use Rattle.lab.specs.Table.{lowest, greatestFrom, Lines, refused, written, behind, lineUnless, linesOf, betasOf, mfLine, traceMf, tableHeader, tableBy, tableWith, tableText}
 use Rattle.lab.specs.Writing.{Begins, LinedAs}
@@ -146,7 +146,7 @@ module _ (room : ℕ) (slots values : List ℕ) (plan : ℕ) where
 
 -- the loop over the betas
 pub betas-next : (nums dens : List ℕ) (i : ℕ) → i < length nums → i < length dens
-    → betasOf (drop i nums) (drop i dens) ≡ Pg (record { num = getD nums i 0; den = getD dens i 0 }) ∷ betasOf (drop (i + 1) nums) (drop (i + 1) dens)
+    → betasOf (drop i nums) (drop i dens) ≡ PG (record { num = getD nums i 0; den = getD dens i 0 }) ∷ betasOf (drop (i + 1) nums) (drop (i + 1) dens)
 unfolding betasOf
 betas-next nums dens i n d = rw (add-one i, drop-cons nums i 0 n, drop-cons dens i 0 d) refl
 
@@ -165,7 +165,7 @@ module _ (room : ℕ) (slots values : List ℕ) (plan : ℕ) (nums dens : List �
   betasLeft = linesOf room slots values plan (betasOf (drop i nums) (drop i dens))
 
   abbrev pub betaAt : Policy
-  betaAt = Pg (record { num = getD nums i 0; den = getD dens i 0 })
+  betaAt = PG (record { num = getD nums i 0; den = getD dens i 0 })
 
   pub betas-turn : i < length nums → (r : Lined) (at next : ℕ) (out between out′ : List ℕ)
       → LinedAs (lined.At next) (linesOf room slots values plan (betaAt ∷ [])) at out between
@@ -191,9 +191,9 @@ module _ (lines : Lines) (at : ℕ) (out out′ : List ℕ) {r : Lined} where
 
 -- MF's line
 module _ (room : ℕ) (slots values : List ℕ) (plan lo hi : ℕ) (l : lo ≡ lowest values) (h : hi ≡ greatestFrom 0 values) (answer : RunAnswer)
-    (is : ofRun answer ≡ replyOf (Mf (record { lo = lo; hi = hi; r = 1 })) room slots values) where
+    (is : ofRun answer ≡ replyOf (MF (record { lo = lo; hi = hi; r = 1 })) room slots values) where
   abbrev own : Policy
-  own = Mf (record { lo = lo; hi = hi; r = 1 })
+  own = MF (record { lo = lo; hi = hi; r = 1 })
 
   mf-is : cond (eqb (ofRun answer .number) 0) (lineOf own (ofRun answer .totals) plan) [] ≡ mfLine room slots values plan
   unfolding mfLine
@@ -201,7 +201,7 @@ module _ (room : ℕ) (slots values : List ℕ) (plan lo hi : ℕ) (l : lo ≡ l
       ap (λ (reply : Reply). cond (eqb (reply .number) 0) (lineOf own (reply .totals) plan) []) is
       ∙ ap₂
       (λ (a b : ℕ).
-      let policy = Mf (record { lo = a; hi = b; r = 1 }) in
+      let policy = MF (record { lo = a; hi = b; r = 1 }) in
       let reply = replyOf policy room slots values in
       cond (eqb (reply .number) 0) (lineOf policy (reply .totals) plan) [])
       l

@@ -6,7 +6,7 @@ use mathlib.Core.List.{List, [], _∷_, map}
 use lib.ListN.{getD, take, drop}
 use lib.Dec.{eqb}
 use Rattle.field.specs.Fields.{same}
-use Rattle.text.specs.declared.Policy.the-variants.{Greedy, Pg, Mf, Plan}
+use Rattle.runs.specs.declared.Policy.the-variants.{Greedy, PG, MF, Plan}
 use Rattle.lab.specs.declared.jobs.Job.{Job}
 use Rattle.lab.specs.declared.jobs.Job.the-variants.{Run, Table, Audit, None}
 use Rattle.lab.specs.declared.arguments.Arguments.{Arguments}
@@ -35,9 +35,9 @@ jobFrom words firsts seconds =
     let at : ℕ → ℕ = λ place. getD firsts place 0 in
     cond (same words (kinds .run ∷ kinds .greedy ∷ kinds .number ∷ [])) (Run Greedy (at 2))
     (cond (same words (kinds .run ∷ kinds .pg ∷ kinds .number ∷ kinds .beta ∷ []))
-    (Run (Pg (record { num = at 3; den = getD seconds 3 0 })) (at 2))
+    (Run (PG (record { num = at 3; den = getD seconds 3 0 })) (at 2))
     (cond (same words (kinds .run ∷ kinds .mf ∷ kinds .number ∷ kinds .number ∷ kinds .number ∷ kinds .number ∷ []))
-    (Run (Mf (record { lo = at 3; hi = at 4; r = at 5 })) (at 2))
+    (Run (MF (record { lo = at 3; hi = at 4; r = at 5 })) (at 2))
     (cond (same words (kinds .run ∷ kinds .plan ∷ kinds .number ∷ [])) (Run Plan (at 2))
     (cond (isTable words) (Table (at 1)) (cond (same words (kinds .audit ∷ kinds .number ∷ [])) (Audit (at 1)) None)))))
 

@@ -6,8 +6,8 @@ use lib.Dec.{eqb}
 use Rattle.model.specs.declared.Totals.{Totals}
 use Rattle.signs.specs.Signs.{cr, lf, comma}
 use Rattle.output.specs.Output.{decimal}
-use Rattle.text.specs.declared.Policy.{Policy}
-use Rattle.text.specs.declared.Policy.the-variants.{Greedy, Pg, Mf, Plan}
+use Rattle.runs.specs.declared.Policy.{Policy}
+use Rattle.runs.specs.declared.Policy.the-variants.{Greedy, PG, MF, Plan}
 
 abbrev pub space : ℕ
 space = 32
@@ -18,8 +18,8 @@ slash = 47
 -- `greedy`, `pg NUM/DEN`, `mf LO HI R`, `plan`
 abbrev pub nameOf : Policy → List ℕ
 nameOf Greedy = 103 ∷ 114 ∷ 101 ∷ 101 ∷ 100 ∷ 121 ∷ []
-nameOf (Pg beta) = (112 ∷ 103 ∷ space ∷ []) ++ decimal (beta .num) ++ (slash ∷ []) ++ decimal (beta .den)
-nameOf (Mf m) = (109 ∷ 102 ∷ space ∷ []) ++ decimal (m .lo) ++ (space ∷ []) ++ decimal (m .hi) ++ (space ∷ []) ++ decimal (m .r)
+nameOf (PG beta) = (112 ∷ 103 ∷ space ∷ []) ++ decimal (beta .num) ++ (slash ∷ []) ++ decimal (beta .den)
+nameOf (MF m) = (109 ∷ 102 ∷ space ∷ []) ++ decimal (m .lo) ++ (space ∷ []) ++ decimal (m .hi) ++ (space ∷ []) ++ decimal (m .r)
 nameOf Plan = 112 ∷ 108 ∷ 97 ∷ 110 ∷ []
 
 -- sent, value, rejected, pushed out, preempted, flushed, most held

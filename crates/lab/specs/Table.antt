@@ -7,9 +7,9 @@ use Rattle.model.specs.declared.Totals.{Totals}
 use Rattle.model.specs.Answers.{Reply}
 use Rattle.signs.specs.Signs.{cr, lf}
 use Rattle.output.specs.Output.{refusalText}
-use Rattle.text.specs.declared.Policy.{Policy}
-use Rattle.text.specs.declared.Policy.the-variants.{Greedy, Pg, Mf, Plan}
-use Rattle.text.specs.Run.{replyOf}
+use Rattle.runs.specs.declared.Policy.{Policy}
+use Rattle.runs.specs.declared.Policy.the-variants.{Greedy, PG, MF, Plan}
+use Rattle.runs.specs.Policy.{replyOf}
 use Rattle.lab.specs.Line.{lineOf}
 
 -- the lines of some policies, or the refusal of the first that is refused
@@ -35,7 +35,7 @@ linesOf room slots values plan (policy ∷ policies) =
 unfoldable pub betasOf : List ℕ → List ℕ → List Policy
 betasOf [] dens = []
 betasOf (num ∷ nums) [] = []
-betasOf (num ∷ nums) (den ∷ dens) = Pg (record { num = num; den = den }) ∷ betasOf nums dens
+betasOf (num ∷ nums) (den ∷ dens) = PG (record { num = num; den = den }) ∷ betasOf nums dens
 
 -- the lines whose refusal refuses the table
 abbrev pub comparedOf : ℕ → List ℕ → List ℕ → ℕ → List ℕ → List ℕ → Lines
@@ -56,7 +56,7 @@ lowest (v ∷ values) = lowestFrom v values
 
 -- MF with the trace's lowest value as lo, its greatest as hi, and r = 1
 abbrev pub traceMf : List ℕ → Policy
-traceMf values = Mf (record { lo = lowest values; hi = greatestFrom 0 values; r = 1 })
+traceMf values = MF (record { lo = lowest values; hi = greatestFrom 0 values; r = 1 })
 
 -- its line; none where it is refused, as where the trace has not two values
 unfoldable pub mfLine : ℕ → List ℕ → List ℕ → ℕ → List ℕ

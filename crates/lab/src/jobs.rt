@@ -14,7 +14,7 @@ use crate::words::TABLE;
 use crate::words::same;
 use model::Beta;
 use model::Marking;
-use text::Policy;
+use runs::Policy;
 
 // A command with its room; a table's betas are the words behind its room.
 pub enum Job {
@@ -71,7 +71,7 @@ pub fn job_from(words: &[u8], firsts: &[u32], seconds: &[u32]) -> Job
             num: at(firsts, 3),
             den: at(seconds, 3),
         };
-        return Job::Run(Policy::Pg(beta), at(firsts, 2) as usize);
+        return Job::Run(Policy::PG(beta), at(firsts, 2) as usize);
     }
     if same(words, &[RUN, MF, NUMBER, NUMBER, NUMBER, NUMBER]) {
         let m = Marking {
@@ -79,7 +79,7 @@ pub fn job_from(words: &[u8], firsts: &[u32], seconds: &[u32]) -> Job
             hi: at(firsts, 4),
             r: at(firsts, 5) as usize,
         };
-        return Job::Run(Policy::Mf(m), at(firsts, 2) as usize);
+        return Job::Run(Policy::MF(m), at(firsts, 2) as usize);
     }
     if same(words, &[RUN, PLAN, NUMBER]) {
         return Job::Run(Policy::Plan, at(firsts, 2) as usize);

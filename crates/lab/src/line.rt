@@ -7,9 +7,9 @@ ghost use Rattle.lab.specs.Line.{nameOf, countsOf, behindCommas, partOf,
 use model::Totals;
 use output::put;
 use output::put_number;
+use runs::Policy;
 use signs::COMMA;
 use signs::ZERO;
-use text::Policy;
 
 // Writes a policy's name with its parameters.
 fn put_name(out: &mut [u8], at: usize, policy: Policy) -> usize
@@ -18,13 +18,13 @@ fn put_name(out: &mut [u8], at: usize, policy: Policy) -> usize
 {
     match policy {
         Policy::Greedy => put(out, at, b"greedy"),
-        Policy::Pg(beta) => {
+        Policy::PG(beta) => {
             let word = put(out, at, b"pg ");
             let num = put_number(out, word, beta.num as u64);
             let slash = put(out, num, b"/");
             put_number(out, slash, beta.den as u64)
         }
-        Policy::Mf(m) => {
+        Policy::MF(m) => {
             let word = put(out, at, b"mf ");
             let lo = put_number(out, word, m.lo as u64);
             let first = put(out, lo, b" ");

@@ -17,8 +17,8 @@ use model::Refusal;
 use model::RunAnswer;
 use model::Totals;
 use output::put;
-use text::Policy;
-use text::reply;
+use runs::Policy;
+use runs::reply;
 
 const HEADER: [u8; 75] =
     *b"policy,sent,value,rejected,pushed out,preempted,flushed,most held,of plan\r\n";
@@ -103,7 +103,7 @@ fn put_betas(
             num: nums[i],
             den: dens[i],
         };
-        match put_policy(out, end, Policy::Pg(beta), room, slots, values, plan) {
+        match put_policy(out, end, Policy::PG(beta), room, slots, values, plan) {
             Lined::Refused(refusal) => {
                 return Lined::Refused(refusal);
             }
@@ -144,7 +144,7 @@ fn put_mf(out: &mut [u8], at: usize, room: usize, slots: &[u32], values: &[u32],
     requires { ⌜ at + 239 ≤ length (now out) ⌝ }
     ensures { λ r. ⌜ WroteIn out r at (mfLine room (now (slots .entry)) (now (values .entry)) plan) ⌝ }
 {
-    let policy = Policy::Mf(Marking {
+    let policy = Policy::MF(Marking {
         lo: lowest(values),
         hi: greatest(values),
         r: 1,

@@ -13,7 +13,7 @@ use Rattle.output.specs.Output.{outputLimit, refusalText}
 use Rattle.output.specs.Writing.{Wrote}
 use Rattle.rows.specs.declared.Rows.{Rows}
 use Rattle.rows.specs.declared.Rows.the-variants.{Read}
-use Rattle.text.specs.declared.Policy.the-variants.{Pg}
+use Rattle.runs.specs.declared.Policy.the-variants.{PG}
 use Rattle.text.specs.Run.{runSpoken}
 use Rattle.text.specs.Bench.{benchRoom, benchBeta, traceOutput}
 use Rattle.text.specs.Says.{saysOf, tableSize, spoken, Answered}
@@ -64,6 +64,6 @@ module _ (read : Rows) (table out : List ℕ) where
           says-by (Read count) is ∙ rw (le-ltb 2048 count few, n) refl
 
 -- what PG says of a trace, where the list is long enough
-pub trace-spoken : (slots values out : List ℕ) → outputLimit ≤ length out → runSpoken (Pg benchBeta) benchRoom slots values out ≡ traceOutput slots values
+pub trace-spoken : (slots values out : List ℕ) → outputLimit ≤ length out → runSpoken (PG benchBeta) benchRoom slots values out ≡ traceOutput slots values
 unfolding traceOutput
-trace-spoken slots values out long = sym (spoken-all (Pg benchBeta) benchRoom slots values out long)
+trace-spoken slots values out long = sym (spoken-all (PG benchBeta) benchRoom slots values out long)

@@ -21,7 +21,7 @@ use Rattle.rows.specs.Input.{Input, malformed, rows, columnOf, inputOf}
 use Rattle.rows.specs.Whole.{Stands}
 use Rattle.rows.specs.Whole as read
 use Rattle.output.specs.Output.{refusalText}
-use Rattle.text.specs.declared.Policy.the-variants.{Pg}
+use Rattle.runs.specs.declared.Policy.the-variants.{PG}
 use Rattle.text.specs.Bench.{benchRoom, benchBeta, traceOutput, outputBy, benchOutput}
 use Rattle.text.specs.Says.{saysOf, spoken}
 use Rattle.text.specs.Whole.{Whole}
@@ -33,7 +33,7 @@ too-many : (slots values : List ℕ) → length values ≡ length slots → reco
     → traceOutput slots values ≡ refusalText (causeNumber Packets) 0
 unfolding traceOutput
 too-many slots values same many =
-    sym (over-said (Pg benchBeta) benchRoom slots values many {reply = record { number = causeNumber Packets; place = 0; totals = noTotals }}
+    sym (over-said (PG benchBeta) benchRoom slots values many {reply = record { number = causeNumber Packets; place = 0; totals = noTotals }}
     (rw (eq-eqb (length values) (length slots) same) refl))
 
 column-length : (j : ℕ) (all : List (List ℕ)) → length (columnOf j all) ≡ length all

@@ -8,7 +8,7 @@ use Rattle.model.specs.Numbers.{causeNumber}
 use Rattle.signs.specs.Signs.{traceHeader}
 use Rattle.rows.specs.Input.{Input, malformed, rows, inputOf, columnOf}
 use Rattle.output.specs.Output.{refusalText}
-use Rattle.text.specs.declared.Policy.the-variants.{Pg}
+use Rattle.runs.specs.declared.Policy.the-variants.{PG}
 use Rattle.text.specs.Run.{runText}
 
 abbrev pub benchRoom : ℕ
@@ -19,7 +19,7 @@ benchBeta = record { num = 9; den = 1 }
 
 -- what PG says of a trace
 unfoldable pub traceOutput : List ℕ → List ℕ → List ℕ
-traceOutput = runText (Pg benchBeta) benchRoom
+traceOutput = runText (PG benchBeta) benchRoom
 
 unfoldable pub outputBy : Input → List ℕ
 outputBy (malformed line) = refusalText (causeNumber Text) line

@@ -1,38 +1,27 @@
 // One run as text, for every policy, and the bench program's answer to what was read, in lent lists. Every public function takes lists of any length, and
 // states all that it answers and leaves.
-ghost use mathlib.Core.Path.{_≡_};
 ghost use Prim.Native.Nat.{_≤_};
 ghost use lib.ListN.{length};
 ghost use Rattle.model.specs.Limits.{recordLimits};
-ghost use Rattle.model.specs.Answers.{ofRun};
-ghost use Rattle.model.specs.Lent.{was, left, listsBefore, listsAfter};
-ghost use Rattle.steps.specs.Calls.{outcome};
+ghost use Rattle.model.specs.Lent.{was, left, listsBefore};
 ghost use Rattle.output.specs.Output.{outputLimit};
 ghost use Rattle.output.specs.Writing.{WroteIn};
-ghost use Rattle.text.specs.Run.{callOf, replyOf, tooMany, calledText, runSpoken};
+ghost use Rattle.text.specs.Run.{calledText, runSpoken};
 ghost use Rattle.text.specs.Says.{Answered};
 use model::Beta;
 use model::Cause;
-use model::Marking;
 use model::Record;
-use model::Refusal;
-use model::RunAnswer;
 use output::OUTPUT;
 use output::put;
 use output::put_refusal;
 use output::put_rows;
 use replies::of_run;
 use rows::Rows;
+use runs::Policy;
+use runs::call;
+use runs::too_many;
 use signs::LINE_END;
 use signs::RECORD;
-
-// The policies and the offline plan, each with its parameters.
-pub enum Policy {
-    Greedy,
-    Pg(Beta),
-    Mf(Marking),
-    Plan,
-}
 
 // The table that the bench program reads: a column of slots and a column of values.
 pub const TABLE: usize = 2 * Record::PACKETS;
@@ -43,64 +32,6 @@ const ROOM: usize = 2;
 const NUM: u32 = 9;
 
 const DEN: u32 = 1;
-
-// A policy's run on a trace, with its record in three lent lists.
-pub fn call(
-    policy: Policy,
-    room: usize,
-    slots: &[u32],
-    values: &[u32],
-    fates: &mut [u32],
-    whens: &mut [u32],
-    bys: &mut [u32],
-) -> RunAnswer
-    ensures { λ r. ⌜ outcome r (listsAfter fates whens bys) ≡ callOf policy room (was slots) (was values) (listsBefore fates whens bys) ⌝ }
-{
-    match policy {
-        Policy::Greedy => runs_rule::greedy(slots, values, room, fates, whens, bys),
-        Policy::Pg(beta) => runs_rule::pg(slots, values, room, beta, fates, whens, bys),
-        Policy::Mf(m) => runs_policy::mf(slots, values, room, m, fates, whens, bys),
-        Policy::Plan => runs_policy::plan(slots, values, room, fates, whens, bys),
-    }
-}
-
-// The answer to a trace that has more packets than a record has places, whatever the policy.
-fn too_many(packets: usize, values: usize) -> RunAnswer
-    ensures { λ r. ⌜ ofRun r ≡ tooMany packets values ⌝ }
-{
-    if values != packets {
-        return RunAnswer::Refused(Refusal {
-            cause: Cause::Lengths,
-            place: 0,
-        });
-    }
-    RunAnswer::Refused(Refusal {
-        cause: Cause::Packets,
-        place: 0,
-    })
-}
-
-// What a policy's run on a trace answers; the record is dropped.
-pub fn reply(policy: Policy, room: usize, slots: &[u32], values: &[u32]) -> RunAnswer
-    ensures { λ r. ⌜ ofRun r ≡ replyOf policy room (was slots) (was values) ⌝ }
-{
-    let n = slots.len();
-    if Record::PACKETS < n {
-        return too_many(n, values.len());
-    }
-    let mut fates = [0u32; Record::PACKETS];
-    let mut whens = [0u32; Record::PACKETS];
-    let mut bys = [0u32; Record::PACKETS];
-    call(
-        policy,
-        room,
-        slots,
-        values,
-        &mut fates[..n],
-        &mut whens[..n],
-        &mut bys[..n],
-    )
-}
 
 // What a policy says of a trace, with its record in three lent lists.
 fn say(
@@ -171,7 +102,7 @@ pub fn answer(read: Rows, table: &[u32], out: &mut [u8]) -> usize
                 return put_refusal(out, Cause::Packets.number() as u64, 0);
             }
             let end = Record::PACKETS + count;
-            let pg = Policy::Pg(Beta { num: NUM, den: DEN });
+            let pg = Policy::PG(Beta { num: NUM, den: DEN });
             run(pg, ROOM, &table[..count], &table[Record::PACKETS..end], out)
         }
     }

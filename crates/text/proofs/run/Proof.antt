@@ -2,7 +2,7 @@
 -- it lends are blank.
 use mathlib.Core.Path.{refl, sym, _∙_}
 use native.Mathlib.Omega.{arith}
-use Rattle.output.proofs.Said.{zeros-length}
+use Rattle.runs.proofs.Calls.{zeros-length}
 use Rattle.output.proofs.Writing.{wrote-same}
 use Rattle.text.proofs.Policies.{blank-said, over-said, spoken-none, spoken-all}
 use borrow.Author.Needs.{needs}

@@ -1,7 +1,7 @@
 -- `lab::table::put_compared` meets its contract: greedy's line, and those of the betas behind it.
 use mathlib.Core.List.{[], _∷_}
 use native.Mathlib.Omega.{arith}
-use Rattle.text.specs.declared.Policy.the-variants.{Greedy}
+use Rattle.runs.specs.declared.Policy.the-variants.{Greedy}
 use Rattle.lab.specs.Table.{linesOf, betasOf}
 use Rattle.lab.proofs.Tables.{lined-at, lined-not, lined-near, lined-behind, lined-first}
 use borrow.Author.Needs.{needs}

@@ -1,8 +1,8 @@
--- `text::call` meets its contract: each case is the call of its policy.
-use Rattle.text.proofs.Policies.{called}
+-- `runs::call` meets its contract: each case is the call of its policy.
+use Rattle.runs.proofs.Calls.{called}
 use borrow.Author.Needs.{needs}
-use Rattle.text.proofs.call.Statement.{statement}
-use Rattle.text.proofs.call.Tie as tie
+use Rattle.runs.proofs.call.Statement.{statement}
+use Rattle.runs.proofs.call.Tie as tie
 
 enum-told : tie.Need-enum-told
 enum-told c = search needs

@@ -1,10 +1,10 @@
--- `text::reply` meets its contract: the lists that it lends are blank, and a trace that has too many packets for them is refused as every call does.
+-- `runs::reply` meets its contract: the lists that it lends are blank, and a trace that has too many packets for them is refused as every call does.
 use mathlib.Core.Path.{sym, _∙_}
-use Rattle.output.proofs.Said.{zeros-length}
-use Rattle.text.proofs.Policies.{replied, over}
+use Rattle.runs.proofs.Calls.{zeros-length}
+use Rattle.runs.proofs.Calls.{replied, over}
 use borrow.Author.Needs.{needs}
-use Rattle.text.proofs.reply.Statement.{statement}
-use Rattle.text.proofs.reply.Tie as tie
+use Rattle.runs.proofs.reply.Statement.{statement}
+use Rattle.runs.proofs.reply.Tie as tie
 
 too-many-requires : tie.Need-too-many-requires
 too-many-requires c κs = search needs

@@ -1,8 +1,8 @@
--- `text::too_many` meets its contract: by whether there are as many values.
-use Rattle.text.proofs.Policies.{lengths-differ, lengths-same}
+-- `runs::too_many` meets its contract: by whether there are as many values.
+use Rattle.runs.proofs.Calls.{lengths-differ, lengths-same}
 use borrow.Author.Needs.{needs}
-use Rattle.text.proofs.too_many.Statement.{statement}
-use Rattle.text.proofs.too_many.Tie as tie
+use Rattle.runs.proofs.too_many.Statement.{statement}
+use Rattle.runs.proofs.too_many.Tie as tie
 
 returns : tie.Need-returns
 returns c = lengths-differ (c .if1 .taken)
