@@ -27,7 +27,7 @@ pub heard-below : HeardBelow
 heard-below port events = below port events (omega arith)
 
 -- a port that was made is fed, a refused making is coded
-module _ {answer : MakingAnswer} {port : PortState} {outcome : PortOutcome} {reply : PortReply} (events : List ℕ) {r : ℕ}
+module _ (answer : MakingAnswer) {port : PortState} {outcome : PortOutcome} {reply : PortReply} (events : List ℕ) {r : ℕ}
     (is : record { reply = ofMaking answer; port = port } ≡ outcome) (says : reply ≡ ofMaking answer) where
   pub of-made : reply .number ≡ 0 → r ≡ heard port 0 events → r ≡ heardOf outcome events
   unfolding heardOf

@@ -127,7 +127,8 @@ pub extern "C" fn host_port(events: &[u32], room: usize, num: u32, den: u32) -> 
     ensures { λ r. ⌜ r ≡ heardOf (makeCall room (betaOf num den)) (now (events .entry)) ⌝ }
 {
     let made = Port::new(room, Beta { num, den });
-    let reply = of_making(made.answer);
+    let answer = made.answer;
+    let reply = of_making(answer);
     if reply.number != 0 {
         return code(reply.number, reply.place);
     }

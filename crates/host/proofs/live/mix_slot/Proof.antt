@@ -5,19 +5,19 @@ use borrow.Author.Needs.{needs}
 use Rattle.host.proofs.live.mix_slot.Statement.{statement}
 use Rattle.host.proofs.live.mix_slot.Tie as tie
 
-reply-requires : tie.Need-reply-requires
-reply-requires c κs = search needs
+of-slot-requires : tie.Need-of-slot-requires
+of-slot-requires c κs = search needs
 
 mix-requires : tie.Need-mix-requires
 mix-requires c κs = search needs
 
 returns : tie.Need-returns
-returns c = c .mix .ensures ∙ ap (mixedIn (c .before .before .args .sum)) (c .before .reply .ensures)
+returns c = c .mix .ensures ∙ ap (mixedIn (c .before .before .args .sum)) (c .before .of-slot .ensures)
 
 pub mix-slot-spec : {M : Type 1} → statement M
 mix-slot-spec =
     tie.close
     (tie.spec
-    reply-requires
+    of-slot-requires
     mix-requires
     returns)
