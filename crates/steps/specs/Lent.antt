@@ -1,6 +1,5 @@
 -- A window of two lent lists, to the last entry, and what sendings leave of it and of the record's lists.
 use Prim.Native.Nat.{ℕ, _+_, _-_}
-use mathlib.Core.Path.{_≡_}
 use mathlib.Core.Bool.{Bool, cond}
 use mathlib.Core.List.{List}
 use lib.ListN.{length}
@@ -10,11 +9,10 @@ use Rattle.model.specs.declared.Slot.{Slot}
 use Rattle.model.specs.Packets.{valuesOf, numbersOf}
 use Rattle.model.specs.Record.{Lists, entered}
 use Rattle.model.specs.Lent.{LentList, was, left, listsBefore, listsAfter}
-use Rattle.model.specs.Course.{Step}
 use Rattle.steps.specs.declared.Window.{Window}
 use Rattle.steps.specs.Window.{windowOf}
 use Rattle.steps.specs.Guarded.{liesWithin}
-use Rattle.steps.specs.Step.{sending, Stepped}
+use Rattle.steps.specs.Step.{sending}
 
 -- a window and its two lists
 pub record Lent : Type 0 where
@@ -73,10 +71,3 @@ unfoldable pub sendingIn : Slot → Slot → Lent → Lists → Moved
 sendingIn now until l lists =
     let step = sending now until (queueIn l) in
     cond (liesWithin (l .window) (l .numbers) (l .values)) (moved (leaving (step .next) l) (entered (step .entries) lists)) (moved l lists)
-
--- sendings are done: the window's end stays, and it holds the queue after them
-abbrev pub SentIn : (List Packet → Step (List Packet)) → Moved → Moved → Type 0
-SentIn sends m n =
-    let l = m .lent in
-    (n .lent .window .tail ≡ l .window .tail)
-    × Stepped (sends (queueIn l)) (m .written) (n .lent .window) (l .numbers) (l .values) (n .written)

@@ -6,11 +6,13 @@ ghost use Rattle.steps.specs.Window.{Oldest};
 ghost use Rattle.steps.specs.Guarded.{Guarded, liesWithin};
 ghost use Rattle.steps.specs.Lent.{lentBefore, liesBefore, queueIn, moved, movedFrom, on, sendingIn};
 use checks::ranges::ROOM;
+use entry::enter;
+use model::Fate;
+use model::PacketNumber;
 use model::Slot;
 use model::SlotAnswer;
 
 mod held;
-mod step;
 
 // The queue of a trace run: the entries from `head` up to `tail` of two lent lists, numbers and values, oldest first. Nothing counts beside it: what is
 // held is what stands there.
@@ -61,5 +63,24 @@ pub fn send_until(
     if !lies_within(numbers, values, w) {
         return w;
     }
-    step::send_until(numbers, values, fates, whens, bys, w, from, until)
+    let mut head = w.head;
+    let tail = w.tail;
+    let mut slot = from.0;
+    while slot < until.0 {
+        let SlotAnswer::Sent(p) = held::oldest(numbers, values, head, tail) else {
+            return Window { head, tail };
+        };
+        enter(
+            fates,
+            whens,
+            bys,
+            p.number,
+            Fate::Sent,
+            Slot(slot),
+            PacketNumber(0),
+        );
+        head += 1;
+        slot += 1;
+    }
+    Window { head, tail }
 }

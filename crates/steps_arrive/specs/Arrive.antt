@@ -5,7 +5,7 @@ use mathlib.Core.Path.{_≡_}
 use mathlib.Core.Bool.{Bool, _&&_, cond}
 use mathlib.Core.List.{List, [], _∷_, _++_}
 use lib.ListN.{length}
-use lib.Dec.{ltb}
+use lib.Dec.{eqb, leb, ltb}
 use Rattle.model.specs.declared.Packet.{Packet}
 use Rattle.model.specs.Packets.{Arrival}
 use Rattle.model.specs.Record.{Lists, entered}
@@ -19,6 +19,10 @@ use Rattle.steps.specs.Lent.{Lent, queueIn, placed, Moved, moved, movedFrom, mo
 -- a window lies within its two lists, and not all their places are in use
 unfoldable pub hasPlace : Window → List ℕ → List ℕ → Bool
 hasPlace w numbers values = liesWithin w numbers values && ltb (w .tail - w .head) (length values)
+
+-- the same of lists of these lengths
+abbrev pub placeIn : Window → ℕ → ℕ → Bool
+placeIn w numbers values = (leb (w .head) (w .tail) && (leb (w .tail) values && eqb numbers values)) && ltb (w .tail - w .head) values
 
 -- where a queue stands that gets one packet more: where it is; from the start of its lists, once it has come to their end
 abbrev pub openPlace : Lent → ℕ

@@ -2,10 +2,17 @@
 ghost use mathlib.Core.Path.{_≡_};
 ghost use Prim.Native.Nat.{_+_, _-_, _<_};
 ghost use lib.ListN.{length};
+ghost use Rattle.queue.specs.Choose.{applied};
 ghost use Rattle.steps.specs.Window.{Within};
+ghost use Rattle.steps.specs.Step.{arrival};
 ghost use Rattle.steps.specs.Lent.{lentBefore, lentAfter};
-ghost use Rattle.steps_arrive.specs.Arrive.{Opened, heldIn, lostIn};
+ghost use Rattle.steps_arrive.specs.Arrive.{Opened, heldIn, lostIn, Moves, decidingBy};
+use entry::enter;
+use model::LossKind;
 use model::Packet;
+use model::PacketNumber;
+use model::Slot;
+use queue::Choice;
 use queue::slide;
 use steps::Window;
 
@@ -59,4 +66,29 @@ pub fn lose(numbers: &mut [u32], values: &mut [u32], w: Window, place: usize) ->
         head: w.head,
         tail: end,
     }
+}
+
+// The packet at a place is lost to the arrival, which is held.
+pub fn replace(
+    numbers: &mut [u32],
+    values: &mut [u32],
+    fates: &mut [u32],
+    whens: &mut [u32],
+    bys: &mut [u32],
+    w: Window,
+    place: usize,
+    kind: LossKind,
+    slot: Slot,
+    p: Packet,
+) -> Window
+    requires { ⌜ Within w (now numbers) (now values) ⌝ }
+    requires { ⌜ w .head + place < w .tail ⌝ }
+    ensures { λ r. ⌜ Moves w r numbers values fates whens bys (decidingBy (applied (Choice.Lose place kind)) (arrival slot p)) ⌝ }
+{
+    let at = w.head + place;
+    let number = numbers[at];
+    let lost = PacketNumber(number);
+    enter(fates, whens, bys, lost, kind.fate(), slot, p.number);
+    let rest = lose(numbers, values, w, place);
+    hold(numbers, values, rest, p)
 }

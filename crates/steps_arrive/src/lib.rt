@@ -4,30 +4,39 @@ ghost use Rattle.model.specs.Course.{heldIf};
 ghost use Rattle.laws.specs.AtOnce.{atOnce};
 ghost use Rattle.steps.specs.Step.{arrival};
 ghost use Rattle.steps.specs.Lent.{lentBefore, lentAfter};
-ghost use Rattle.steps_arrive.specs.Arrive.{hasPlace, holding, Moves, arrivingIn};
+ghost use Rattle.steps_arrive.specs.Arrive.{placeIn, holding, Moves, arrivingIn};
+use entry::enter;
+use model::Fate;
 use model::Packet;
 use model::Rule;
 use model::Slot;
+use queue::Choice;
+use queue::decide;
 use steps::Window;
-use steps::lies_within;
 
 mod held;
-mod step;
 
-fn has_place(numbers: &[u32], values: &[u32], w: Window) -> bool
-    ensures { λ r. ⌜ r ≡ hasPlace w (now (numbers .entry)) (now (values .entry)) ⌝ }
+// Whether a window lies within two lists of these lengths, which are equally long, and not all their places are in use.
+fn has_place(numbers: usize, values: usize, w: Window) -> bool
+    ensures { λ r. ⌜ r ≡ placeIn w numbers values ⌝ }
 {
-    if !lies_within(numbers, values, w) {
+    if w.tail < w.head {
         return false;
     }
-    w.tail - w.head < values.len()
+    if values < w.tail {
+        return false;
+    }
+    if numbers != values {
+        return false;
+    }
+    w.tail - w.head < values
 }
 
 // Holds a packet.
 pub fn hold(numbers: &mut [u32], values: &mut [u32], w: Window, p: Packet) -> Window
     ensures { λ r. ⌜ lentAfter r numbers values ≡ holding p (lentBefore w numbers values) ⌝ }
 {
-    if !has_place(numbers, values, w) {
+    if !has_place(numbers.len(), values.len(), w) {
         return w;
     }
     held::hold(numbers, values, w, p)
@@ -47,10 +56,14 @@ pub fn hold_or_reject(
 ) -> Window
     ensures { λ r. ⌜ Moves w r numbers values fates whens bys (arrivingIn (heldIf keep) (arrival slot p)) ⌝ }
 {
-    if !has_place(numbers, values, w) {
+    if !has_place(numbers.len(), values.len(), w) {
         return w;
     }
-    step::hold_or_reject(numbers, values, fates, whens, bys, w, keep, slot, p)
+    if keep {
+        return held::hold(numbers, values, w, p);
+    }
+    enter(fates, whens, bys, p.number, Fate::Rejected, slot, p.number);
+    w
 }
 
 // An arrival under a rule.
@@ -68,8 +81,28 @@ pub fn arrive(
 ) -> Window
     ensures { λ r. ⌜ Moves w r numbers values fates whens bys (arrivingIn (atOnce room rule) (arrival slot p)) ⌝ }
 {
-    if !has_place(numbers, values, w) {
+    if !has_place(numbers.len(), values.len(), w) {
         return w;
     }
-    step::arrive(numbers, values, fates, whens, bys, w, room, rule, slot, p)
+    let head = w.head;
+    let tail = w.tail;
+    match decide(&values[head..tail], room, rule, p.value) {
+        Choice::Hold => held::hold(numbers, values, w, p),
+        Choice::Reject => {
+            enter(fates, whens, bys, p.number, Fate::Rejected, slot, p.number);
+            w
+        }
+        Choice::Lose(place, kind) => held::replace(
+            numbers,
+            values,
+            fates,
+            whens,
+            bys,
+            w,
+            place,
+            kind,
+            slot,
+            p,
+        ),
+    }
 }

@@ -1,26 +1,19 @@
--- The window lies within its lists, so its end is not before its start.
-use mathlib.Core.Path.{sym, _∙_}
-use borrow.Author.Tests.{not-true, not-false}
-use native.Mathlib.Omega.{arith}
-use Rattle.steps.proofs.Guarding.{lies-within}
-use Rattle.steps_arrive.specs.Arrive.{hasPlace}
-use borrow.Author.Needs.{needs}
+-- At each return the tests that led there decide the parts of `placeIn`.
+use borrow.Author.Tests.{le-leb, lt-leb, eq-eqb, ne-eqb}
 use Rattle.steps_arrive.proofs.has_place.Statement.{statement}
 use Rattle.steps_arrive.proofs.has_place.Tie as tie
 
-lies-within-requires : tie.Need-lies-within-requires
-lies-within-requires c κs = search needs
-
 returns : tie.Need-returns
-unfolding hasPlace
-returns c = simp (sym (c .before .lies-within .ensures) ∙ not-true _ (c .if1 .taken))
-
-sub-result : tie.Need-sub-result
-sub-result c = let a = c .before .before .before .before .before .args in omega (arith, lies-within (a .w) (a .numbers .now) (a .values .now) (sym (c .before .before .lies-within .ensures) ∙ not-false _ (c .before .if1 .left)) .ordered)
+returns c = simp (lt-leb _ _ (c .if1 .taken))
 
 returns-2 : tie.Need-returns-2
-unfolding hasPlace
-returns-2 c = simp (sym (c .before .before .lies-within .ensures) ∙ not-false _ (c .before .if1 .left))
+returns-2 c = simp (le-leb _ _ (c .before .before .if1 .left), lt-leb _ _ (c .if2 .taken))
+
+returns-3 : tie.Need-returns-3
+returns-3 c = simp (le-leb _ _ (c .before .before .before .if1 .left), le-leb _ _ (c .before .if2 .left), ne-eqb _ _ (c .if3 .taken))
+
+returns-4 : tie.Need-returns-4
+returns-4 c = simp (le-leb _ _ (c .before .before .before .before .if1 .left), le-leb _ _ (c .before .before .if2 .left), eq-eqb _ _ (c .before .if3 .left))
 
 pub has-place-spec : {M : Type 1} → statement M
-has-place-spec = tie.close (tie.spec lies-within-requires returns sub-result returns-2)
+has-place-spec = tie.close (tie.spec returns returns-2 returns-3 returns-4)

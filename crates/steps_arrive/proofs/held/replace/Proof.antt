@@ -1,9 +1,10 @@
 -- The loss leaves a free place behind the window, so the arrival is held where the lost packet's successors have closed up.
+use Rattle.model.specs.Record.{listsOf}
 use Rattle.steps.specs.Lent.{lent}
 use Rattle.steps_arrive.proofs.Deciding.{lost-holds, lost-free, replaced-in}
 use borrow.Author.Needs.{needs}
-use Rattle.steps_arrive.proofs.step.replace.Statement.{statement}
-use Rattle.steps_arrive.proofs.step.replace.Tie as tie
+use Rattle.steps_arrive.proofs.held.replace.Statement.{statement}
+use Rattle.steps_arrive.proofs.held.replace.Tie as tie
 
 add-at : tie.Need-add-at
 add-at c = search needs
@@ -56,8 +57,8 @@ returns c =
     let lost = c .before .before .before .before .before .before .before .before .before .before .before .lose in
     let entered = c .before .before .before .before .before .before .before .before .before .before .before .before .before .before .before .before .before .before .before .before .enter in
     let fate = c .before .before .before .before .before .before .before .before .before .before .before .before .before .before .before .before .before .before .before .before .before .fate in
-    replaced-in (a .w) (a .numbers .now) (a .values .now) (start .pre .0) (a .slot) (a .p) _ (a .place) (a .kind) (start .pre .1)
-    (fate .result) (fate .ensures) _ (entered .ensures)
+    replaced-in (a .w) (a .numbers .now) (a .values .now) (start .pre .0) (a .slot) (a .p) (listsOf (a .fates .now) (a .whens .now) (a .bys .now)) (a .place) (a .kind) (start .pre .1)
+    (fate .result) (fate .ensures) (listsOf (entered .last .0) (entered .last .1 .0) (entered .last .1 .1 .0)) (entered .ensures)
     (lent (lost .result) (lost .last .0) (lost .last .1 .0)) (lost .ensures)
     (lent (held .result) (held .last .0) (held .last .1 .0)) (held .ensures)
 
