@@ -19,8 +19,7 @@ use Rattle.steps.specs.Window.{windowOf, Within, oldestOf}
 use Rattle.steps.specs.Step.{Stepped}
 use Rattle.mf_marks.specs.Mark.{beside}
 use Rattle.mf_flush.specs.Flush.{flushing, Finished, finishing, ending}
-use Rattle.steps.proofs.Windows.{window, oldest-sent, oldest-none}
-use Rattle.steps.proofs.Arriving.{window-length}
+use Rattle.steps.proofs.Windows.{window, window-length, oldest-sent, oldest-none}
 use Rattle.steps.proofs.Turning.{entered-both}
 use Rattle.mf_flush.proofs.Ending.{Ending, Ended, ending-past, ending-idle, ending-turn}
 

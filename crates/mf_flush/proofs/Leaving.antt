@@ -20,8 +20,7 @@ use Rattle.steps.specs.Window.{windowOf, Within}
 use Rattle.steps.specs.Guarded.{liesWithin}
 use Rattle.steps.specs.Step.{Stepped}
 use Rattle.steps.specs.Lent.{Lent, lent, placed, leaving}
-use Rattle.steps.proofs.Windows.{window}
-use Rattle.steps.proofs.Arriving.{window-length}
+use Rattle.steps.proofs.Windows.{window, window-length}
 use Rattle.steps.proofs.Guarding.{within-lies}
 use Rattle.steps.proofs.Placing.{same-lent, placed-holds}
 use Rattle.steps.proofs.Lending.{Held, left-holds}

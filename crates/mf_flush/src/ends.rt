@@ -13,7 +13,7 @@ use model::PacketNumber;
 use model::Slot;
 use model::SlotAnswer;
 use steps::Window;
-use steps::moves::oldest;
+use steps::oldest;
 
 // The oldest packet, if any, is sent.
 fn send(

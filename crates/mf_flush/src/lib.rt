@@ -4,7 +4,7 @@ ghost use Rattle.mf_flush.specs.Flush.{MovesMF, endingIn};
 use model::Marking;
 use model::Slot;
 use steps::Window;
-use steps::moves::lies_within;
+use steps::lies_within;
 
 mod ends;
 mod sift;

@@ -9,7 +9,7 @@ use model::Packet;
 use model::PacketNumber;
 use model::Slot;
 use steps::Window;
-use steps::moves::lies_within;
+use steps::lies_within;
 
 mod step;
 

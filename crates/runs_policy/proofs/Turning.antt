@@ -16,7 +16,7 @@ use Rattle.laws.proofs.Conserving.{conserving-mf, slotEnds-shorter}
 use Rattle.steps.specs.declared.Window.{Window}
 use Rattle.steps.specs.Window.{windowOf, Within}
 use Rattle.steps.specs.Step.{Stepped, sending, arriving}
-use Rattle.steps.proofs.Arriving.{window-length}
+use Rattle.steps.proofs.Windows.{window-length}
 use Rattle.steps.proofs.Turning.{entered-both, sending-shorter, sending-is}
 use Rattle.mf_marks.specs.Mark.{beside}
 use Rattle.mf_flush.specs.Flush.{Finished, ending}

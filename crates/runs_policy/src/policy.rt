@@ -15,7 +15,6 @@ use model::PacketNumber;
 use model::Rule;
 use model::Slot;
 use steps::Window;
-use steps::moves;
 
 // The plan, whose kept packets stand in a list beside; or MF with this room, whose marks do.
 pub enum Policy {
@@ -66,7 +65,7 @@ pub fn end_slots(
             from,
             until,
         ),
-        Policy::Kept => moves::send_until(numbers, values, fates, whens, bys, w, from, until),
+        Policy::Kept => steps::send_until(numbers, values, fates, whens, bys, w, from, until),
     }
 }
 
@@ -107,7 +106,7 @@ pub fn turn(
                 last,
                 slot,
             );
-            moves::arrive(
+            steps_arrive::arrive(
                 numbers,
                 values,
                 fates,
@@ -121,9 +120,9 @@ pub fn turn(
             )
         }
         Policy::Kept => {
-            let left = moves::send_until(numbers, values, fates, whens, bys, w, last, slot);
+            let left = steps::send_until(numbers, values, fates, whens, bys, w, last, slot);
             let keep = is_kept(kept, p.number);
-            moves::hold_or_reject(numbers, values, fates, whens, bys, left, keep, slot, p)
+            steps_arrive::hold_or_reject(numbers, values, fates, whens, bys, left, keep, slot, p)
         }
     }
 }

@@ -15,9 +15,9 @@ use model::Rule;
 use model::Slot;
 use steps::PLACES;
 use steps::Window;
-use steps::moves::arrive;
-use steps::moves::hold;
-use steps::moves::send_until;
+use steps::send_until;
+use steps_arrive::arrive;
+use steps_arrive::hold;
 
 // One packet of a trace: the ends of the slots before its own, then its arrival. A packet that finds nothing held is held at once: room is at least 1.
 fn turn(

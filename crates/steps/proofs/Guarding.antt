@@ -1,15 +1,15 @@
 -- What the test of a window tells, and how a promise for all input is given and used.
-use Prim.Native.Nat.{ℕ, _-_, _<_}
+use Prim.Native.Nat.{ℕ}
 use mathlib.Core.Path.{_≡_, sym, _∙_}
 use mathlib.Core.Bool.{Bool, true, false, _&&_, true≢false}
 use mathlib.Core.List.{List}
 use lib.ListN.{length}
-use lib.Dec.{eqb, leb, ltb}
-use borrow.Author.Tests.{ltb-true, leb-true, eqb-true, lt-ltb, le-leb, eq-eqb}
+use lib.Dec.{eqb, leb}
+use borrow.Author.Tests.{leb-true, eqb-true, le-leb, eq-eqb}
 use Rattle.checks.proofs.Tests.{left-part, right-part}
 use Rattle.steps.specs.declared.Window.{Window}
 use Rattle.steps.specs.Window.{Within}
-use Rattle.steps.specs.Guarded.{Guarded, liesWithin, hasPlace}
+use Rattle.steps.specs.Guarded.{Guarded, liesWithin}
 
 module _ {test : Bool} {P F : Type 0} where
   pub by-pass : test ≡ true → P → Guarded test P F
@@ -32,15 +32,3 @@ module _ (w : Window) (numbers values : List ℕ) where
         inside = leb-true _ _ (left-part (leb (w .tail) (length values)) (eqb (length numbers) (length values)) rest);
         same = eqb-true _ _ (right-part (leb (w .tail) (length values)) (eqb (length numbers) (length values)) rest);
       }
-
-  pub free-place : Within w numbers values → w .tail - w .head < length values → hasPlace w numbers values ≡ true
-  unfolding hasPlace
-  free-place W free = simp (within-lies W, lt-ltb _ _ free)
-
-  pub place-within : hasPlace w numbers values ≡ true → Within w numbers values
-  unfolding hasPlace
-  place-within e = lies-within (left-part (liesWithin w numbers values) (ltb (w .tail - w .head) (length values)) e)
-
-  pub place-free : hasPlace w numbers values ≡ true → w .tail - w .head < length values
-  unfolding hasPlace
-  place-free e = ltb-true _ _ (right-part (liesWithin w numbers values) (ltb (w .tail - w .head) (length values)) e)

@@ -2,9 +2,7 @@ pub mod Writing
 pub mod Windows
 pub mod Guarding
 pub mod Sending
-pub mod Arriving
 pub mod Placing
-pub mod Deciding
 pub mod Keeping
 pub mod Lending
 pub mod Turning

@@ -13,8 +13,7 @@ use Rattle.steps.specs.declared.Window.{Window}
 use Rattle.steps.specs.Window.{windowOf, Within}
 use Rattle.steps.specs.Run.{Runnable, Ran}
 use Rattle.steps.specs.Places.{packetAt}
-use Rattle.steps.proofs.Windows.{window, window-none}
-use Rattle.steps.proofs.Arriving.{window-length}
+use Rattle.steps.proofs.Windows.{window, window-none, window-length}
 use Rattle.steps.proofs.Coursing.{at, Coursing, coursing-all, coursing-short, coursing-turn, coursing-end}
 
 module _ {S : Type 0} (P : Policy S) (s₀ : S) (slots values : List ℕ) (before : Lists) where

@@ -14,7 +14,7 @@ use Rattle.laws.proofs.Agree.{ends-short}
 use Rattle.steps.specs.declared.Window.{Window}
 use Rattle.steps.specs.Window.{windowOf, Within}
 use Rattle.steps.specs.Step.{Stepped, anyRule, sending, arriving, turning}
-use Rattle.steps.proofs.Arriving.{window-length}
+use Rattle.steps.proofs.Windows.{window-length}
 
 pub entered-both : (first second : List Entry) (lists : Lists) → entered (first ++ second) lists ≡ entered second (entered first lists)
 unfolding entered

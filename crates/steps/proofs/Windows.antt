@@ -1,4 +1,4 @@
--- What a window holds with one entry more, and with its oldest taken: the part of each list first, then the packets of the two parts.
+-- What a window holds, entry by entry; with one entry more; and with its oldest taken: the part of each list first, then the packets of the two parts.
 use Prim.Native.Nat.{ℕ, zero, suc, _+_, _-_, _≤_, _<_}
 use mathlib.Core.Path.{_≡_, sym, ap, ap₂, _∙_, refl}
 use mathlib.Core.List.{List, [], _∷_, _++_}
@@ -7,14 +7,14 @@ use native.Mathlib.Numerals.{add-one}
 use native.Mathlib.Omega.{arith}
 use native.Mathlib.Nat.{zero-add, suc-add}
 use lib.ListN.{length, getD, take, drop, set, length-take, length-drop, length-set}
-use lib.Seq.{take-nil, drop-set-add, take-suc-set, drop-cons}
+use lib.Seq.{take-nil, drop-set-add, take-suc-set, drop-cons, getD-take, getD-drop}
 use lib.Dec.{ltb}
 use borrow.Author.Tests.{ltb-true, ltb-false}
-use Rattle.model.specs.Packets.{packetIn}
+use Rattle.model.specs.Packets.{packetOf, packetIn, nobody, valuesOf}
 use Rattle.model.specs.declared.Packet.{Packet}
 use Rattle.model.specs.Port.{packetsOf}
 use Rattle.model.specs.declared.SlotAnswer.the-variants.{Sent}
-use Rattle.queue.proofs.Packets.{packets-append}
+use Rattle.queue.proofs.Packets.{packets-append, packets-values, packets-length, packets-at}
 use Rattle.steps.specs.declared.Window.{Window}
 use Rattle.steps.specs.Window.{part, windowOf, Within, Holds, oldestOf}
 
@@ -23,6 +23,30 @@ window head tail = record { head = head; tail = tail }
 
 pub part-length : (w : Window) (list : List ℕ) → w .tail ≤ length list → length (part w list) ≡ w .tail - w .head
 part-length w list h = simp (length-take, length-drop) (omega arith)
+
+-- the queue that a window holds: its length, its values, and the packet at a place
+module _ (w : Window) (numbers values : List ℕ) (W : Within w numbers values) where
+  pub parts-same : length (part w numbers) ≡ length (part w values)
+  parts-same = part-length w numbers (omega (arith, W .same, W .inside)) ∙ sym (part-length w values (W .inside))
+
+  pub window-length : length (windowOf w numbers values) ≡ w .tail - w .head
+  unfolding windowOf
+  window-length = packets-length (part w numbers) (part w values) parts-same ∙ part-length w values (W .inside)
+
+  pub window-values : valuesOf (windowOf w numbers values) ≡ part w values
+  unfolding windowOf
+  window-values = packets-values (part w numbers) (part w values) parts-same
+
+  pub window-at : (place : ℕ) → w .head + place < w .tail
+      → getD (windowOf w numbers values) place nobody
+      ≡ packetIn numbers values (w .head + place)
+  unfolding windowOf
+  window-at place inside =
+      packets-at (part w numbers) (part w values) place parts-same (rw (part-length w values (W .inside)) (omega arith))
+      ∙ ap₂ packetOf (entry-at numbers) (entry-at values)
+    where
+      entry-at : (list : List ℕ) → getD (part w list) place 0 ≡ getD list (w .head + place) 0
+      entry-at list = getD-take (w .tail - w .head) (drop (w .head) list) place 0 (omega arith) ∙ getD-drop (w .head) list place 0
 
 -- one more entry behind the window
 stored-part : (w : Window) (list : List ℕ) (entry : ℕ) → w .head ≤ w .tail → w .tail < length list

@@ -1,11 +1,11 @@
--- A promise for all input: what holds where a test passes, and what holds where it does not. A window that does not lie within its lists, or has no place
--- free where one is needed, is handed back, and nothing is written.
-use Prim.Native.Nat.{ℕ, _-_}
+-- A promise for all input: what holds where a test passes, and what holds where it does not. A window that does not lie within its lists is handed back, and
+-- nothing is written.
+use Prim.Native.Nat.{ℕ}
 use mathlib.Core.Path.{_≡_}
 use mathlib.Core.Bool.{Bool, true, false, _&&_}
 use mathlib.Core.List.{List}
 use lib.ListN.{length}
-use lib.Dec.{eqb, leb, ltb}
+use lib.Dec.{eqb, leb}
 use Rattle.steps.specs.declared.Window.{Window}
 
 pub record Guarded (test : Bool) (Passed Failed : Type 0) : Type 0 where
@@ -15,13 +15,3 @@ pub record Guarded (test : Bool) (Passed Failed : Type 0) : Type 0 where
 -- a window lies within its two lists, which are equally long
 unfoldable pub liesWithin : Window → List ℕ → List ℕ → Bool
 liesWithin w numbers values = leb (w .head) (w .tail) && (leb (w .tail) (length values) && eqb (length numbers) (length values))
-
--- and not all places of the lists are in use
-unfoldable pub hasPlace : Window → List ℕ → List ℕ → Bool
-hasPlace w numbers values = liesWithin w numbers values && ltb (w .tail - w .head) (length values)
-
--- the window and its lists are handed back as they were
-pub record Unmoved (w : Window) (numbers values : List ℕ) (r : Window) (numbers′ values′ : List ℕ) : Type 0 where
-  pub same-window : r ≡ w
-  pub same-numbers : numbers′ ≡ numbers
-  pub same-values : values′ ≡ values

@@ -1,22 +1,18 @@
--- A window of two lent lists, to the last entry, and what each move leaves of it and of the record's lists.
-use Prim.Native.Nat.{ℕ, _+_, _-_, _<_}
-use mathlib.Core.Path.{_≡_}
+-- A window of two lent lists, to the last entry, and what sendings leave of it and of the record's lists.
+use Prim.Native.Nat.{ℕ, _+_, _-_}
 use mathlib.Core.Bool.{Bool, cond}
-use mathlib.Core.List.{List, [], _∷_, _++_, map}
+use mathlib.Core.List.{List}
 use lib.ListN.{length}
 use lib.Seq.{sets}
-use lib.Dec.{ltb}
 use Rattle.model.specs.declared.Packet.{Packet}
 use Rattle.model.specs.declared.Slot.{Slot}
-use Rattle.model.specs.Packets.{Arrival, valuesOf, numbersOf}
+use Rattle.model.specs.Packets.{valuesOf, numbersOf}
 use Rattle.model.specs.Record.{Lists, entered}
 use Rattle.model.specs.Lent.{LentList, was, left, listsBefore, listsAfter}
-use Rattle.model.specs.Policies.Greedy.{without}
-use Rattle.model.specs.Course.{Decision, held, rejected, losing, Decided, Step, entriesOf}
 use Rattle.steps.specs.declared.Window.{Window}
 use Rattle.steps.specs.Window.{windowOf}
-use Rattle.steps.specs.Guarded.{liesWithin, hasPlace}
-use Rattle.steps.specs.Step.{sending, Stepped}
+use Rattle.steps.specs.Guarded.{liesWithin}
+use Rattle.steps.specs.Step.{sending}
 
 -- a window and its two lists
 pub record Lent : Type 0 where
@@ -47,25 +43,6 @@ unfoldable pub placed : ℕ → List Packet → Lent → Lent
 placed place queue l =
     lent (record { head = place; tail = place + length queue }) (sets (l .numbers) place (numbersOf queue)) (sets (l .values) place (valuesOf queue))
 
--- where a queue stands that gets one packet more: where it is; from the start of its lists, once it has come to their end
-abbrev pub openPlace : Lent → ℕ
-openPlace l = cond (ltb (l .window .tail) (length (l .values))) (l .window .head) 0
-
--- a queue with a free place behind it
-abbrev pub Opened : Lent → Lent → Type 0
-Opened l m = (m ≡ placed (openPlace l) (queueIn l) l) × (m .window .tail < length (m .values))
-
--- a packet held behind the others, and the packet at a place lost
-abbrev pub heldIn : Packet → Lent → Lent
-heldIn p l = placed (openPlace l) (queueIn l ++ p ∷ []) l
-
-abbrev pub lostIn : ℕ → Lent → Lent
-lostIn place l = placed (l .window .head) (without place (queueIn l)) l
-
--- a packet is held behind the others; where no place is free all is as before
-unfoldable pub holding : Packet → Lent → Lent
-holding p l = cond (hasPlace (l .window) (l .numbers) (l .values)) (placed (openPlace l) (queueIn l ++ p ∷ []) l) l
-
 -- the window with its lists, beside the record's lists
 pub record Moved : Type 0 where
   pub lent : Lent
@@ -85,30 +62,6 @@ movedTo w numbers values fates whens bys = moved (lentAfter w numbers values) (l
 abbrev pub on : (Lent → Lists → Moved) → Moved → Moved
 on step m = step (m .lent) (m .written)
 
--- a call makes a step on both
-abbrev pub Moves : Window → Window → LentList → LentList → LentList → LentList → LentList → (Lent → Lists → Moved) → Type 0
-Moves w r numbers values fates whens bys step =
-    movedTo r numbers values fates whens bys ≡ on step (movedFrom w numbers values fates whens bys)
-
--- where the queue stands after a decision: the arrival needs a place behind the others only where it is held and none is lost
-abbrev pub decidedPlace : Decision → Lent → ℕ
-decidedPlace held l = openPlace l
-decidedPlace rejected l = l .window .head
-decidedPlace (losing loss) l = l .window .head
-
--- what a decision on an arrival leaves: the queue after it, and its entry written
-abbrev pub deciding : Arrival → Decided → Lent → Lists → Moved
-deciding a d l lists = moved (placed (decidedPlace (d .decision) l) (d .queue) l) (entered (entriesOf a (d .decision)) lists)
-
--- and what a rule's decision leaves
-abbrev pub decidingBy : (List Packet → Packet → Decided) → Arrival → Lent → Lists → Moved
-decidingBy rule a l lists = deciding a (rule (queueIn l) (a .packet)) l lists
-
--- an arrival under a rule; where no place is free all is as before
-unfoldable pub arrivingIn : (List Packet → Packet → Decided) → Arrival → Lent → Lists → Moved
-arrivingIn rule a l lists =
-    cond (hasPlace (l .window) (l .numbers) (l .values)) (deciding a (rule (queueIn l) (a .packet)) l lists) (moved l lists)
-
 -- the queue that sendings leave: the window's end stays, and its start has moved on
 abbrev pub leaving : List Packet → Lent → Lent
 leaving queue l = lent (record { head = l .window .tail - length queue; tail = l .window .tail }) (l .numbers) (l .values)
@@ -118,10 +71,3 @@ unfoldable pub sendingIn : Slot → Slot → Lent → Lists → Moved
 sendingIn now until l lists =
     let step = sending now until (queueIn l) in
     cond (liesWithin (l .window) (l .numbers) (l .values)) (moved (leaving (step .next) l) (entered (step .entries) lists)) (moved l lists)
-
--- sendings are done: the window's end stays, and it holds the queue after them
-abbrev pub SentIn : (List Packet → Step (List Packet)) → Moved → Moved → Type 0
-SentIn sends m n =
-    let l = m .lent in
-    (n .lent .window .tail ≡ l .window .tail)
-    × Stepped (sends (queueIn l)) (m .written) (n .lent .window) (l .numbers) (l .values) (n .written)

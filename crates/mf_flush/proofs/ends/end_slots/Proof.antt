@@ -9,8 +9,7 @@ use Rattle.model.specs.Record.{listsOf}
 use Rattle.steps.specs.Window.{windowOf}
 use Rattle.mf_marks.specs.Mark.{beside}
 use Rattle.steps.specs.Lent.{Lent, lent}
-use Rattle.steps.proofs.Windows.{window}
-use Rattle.steps.proofs.Arriving.{window-length}
+use Rattle.steps.proofs.Windows.{window, window-length}
 use Rattle.mf_flush.proofs.Ending.{ending-all}
 use Rattle.mf_flush.proofs.Leaving.{ends, ends-past, ends-idle, ends-turn}
 use Rattle.mf_flush.proofs.Finishing.{Left, left-turn, left-past, left-idle}

@@ -5,8 +5,9 @@ use Rattle.model.specs.Policies.Plan.{keptRule}
 use Rattle.model.specs.declared.Rule.the-variants.{Greedy}
 use Rattle.steps.specs.Window.{windowOf}
 use Rattle.steps.specs.Step.{arrival, sending}
-use Rattle.steps.proofs.Guarding.{free-place}
-use Rattle.steps.proofs.Lending.{sent-steps, arrived-steps, kept-steps}
+use Rattle.steps.proofs.Lending.{sent-steps}
+use Rattle.steps_arrive.proofs.Guarding.{free-place}
+use Rattle.steps_arrive.proofs.Lending.{arrived-steps, kept-steps}
 use Rattle.mf_flush.proofs.Leaving.{ends-finish}
 use Rattle.runs_policy.specs.declared.policy.Policy.the-variants.{Kept, Marking}
 use Rattle.runs_policy.proofs.Turning.{queue-done, ended-free, turned}

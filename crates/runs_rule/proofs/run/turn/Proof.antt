@@ -6,11 +6,13 @@ use Rattle.laws.specs.AtOnce.{atOnce}
 use Rattle.queue.specs.declared.Choice.the-variants.{Hold}
 use Rattle.steps.specs.Window.{windowOf}
 use Rattle.steps.specs.Step.{arrival}
-use Rattle.steps.proofs.Arriving.{window-length, held, by-choice}
+use Rattle.steps.proofs.Windows.{window-length}
+use Rattle.steps_arrive.proofs.Arriving.{held, by-choice}
 use Rattle.steps.proofs.Turning.{sent-free, turned}
 use Rattle.model.specs.Record.{listsOf}
-use Rattle.steps.proofs.Guarding.{free-place}
-use Rattle.steps.proofs.Lending.{held-holds, arrived-steps, sent-steps}
+use Rattle.steps.proofs.Lending.{sent-steps}
+use Rattle.steps_arrive.proofs.Guarding.{free-place}
+use Rattle.steps_arrive.proofs.Lending.{held-holds, arrived-steps}
 use Rattle.runs_rule.proofs.Empty.{holds-at-once}
 use borrow.Author.Needs.{needs}
 use Rattle.runs_rule.proofs.run.turn.Statement.{statement}
