@@ -10,8 +10,8 @@ use Rattle.output.specs.Output.{outputLimit}
 use Rattle.output.specs.Writing.{Wrote}
 use Rattle.output.proofs.Writing.{wrote-same}
 use Rattle.text.specs.declared.Policy.{Policy}
-use Rattle.lab.specs.declared.jobs.Job.{Job}
-use Rattle.lab.specs.declared.jobs.Job.the-variants.{Run, Table, Audit, None}
+use Rattle.lab_jobs.specs.declared.jobs.Job.{Job}
+use Rattle.lab_jobs.specs.declared.jobs.Job.the-variants.{Run, Table, Audit, None}
 use Rattle.text.specs.Run.{runText, runSpoken}
 use Rattle.text.proofs.Policies.{spoken-all}
 use Rattle.lab.specs.Table.{tableText}

@@ -11,14 +11,14 @@ use borrow.Author.Tests.{eq-eqb, ne-eqb}
 use Rattle.laws.proofs.Cases.{cond-cases}
 use Rattle.model.specs.declared.Beta.{Beta}
 use Rattle.model.specs.declared.Totals.{Totals}
-use Rattle.signs.specs.Signs.{cr, lf, comma}
+use Rattle.signs.specs.Signs.{cr, lf, comma, slash}
 use Rattle.output.specs.Output.{decimal}
 use Rattle.output.specs.Writing.{Wrote, Put}
 use Rattle.output.proofs.Writing.{Left, left-byte, left-wrote, wrote-both, decimal-length}
 use Rattle.model.specs.declared.Marking.{Marking}
 use Rattle.text.specs.declared.Policy.{Policy}
 use Rattle.text.specs.declared.Policy.the-variants.{Greedy, Pg, Mf, Plan}
-use Rattle.lab.specs.Line.{space, slash, nameOf, countsOf, behindCommas, thousandths, partOf, lineOf}
+use Rattle.lab.specs.Line.{space, nameOf, countsOf, behindCommas, thousandths, partOf, lineOf}
 
 pub record Near (most at : ℕ) (text out : List ℕ) (next : ℕ) (out′ : List ℕ) : Type 0 where
   pub wrote : Wrote at text out next out′

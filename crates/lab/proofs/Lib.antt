@@ -2,8 +2,7 @@
 pub mod Chain
 pub mod Tables
 pub mod Audits
-pub mod Wording
-pub mod Asking
+pub mod Hearing
 pub mod Answering
 pub mod Telling
 pub mod Reading

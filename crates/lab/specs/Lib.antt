@@ -2,8 +2,7 @@
 pub mod Line
 pub mod Table
 pub mod Audit
-pub mod Words
-pub mod Jobs
+pub mod Heard
 pub mod Writing
 pub mod Answer
 pub mod Told

@@ -4,16 +4,13 @@ use mathlib.Core.Bool.{cond}
 use mathlib.Core.List.{List, [], _∷_, _++_}
 use lib.Dec.{eqb}
 use Rattle.model.specs.declared.Totals.{Totals}
-use Rattle.signs.specs.Signs.{cr, lf, comma}
+use Rattle.signs.specs.Signs.{cr, lf, comma, slash}
 use Rattle.output.specs.Output.{decimal}
 use Rattle.text.specs.declared.Policy.{Policy}
 use Rattle.text.specs.declared.Policy.the-variants.{Greedy, Pg, Mf, Plan}
 
 abbrev pub space : ℕ
 space = 32
-
-abbrev pub slash : ℕ
-slash = 47
 
 -- `greedy`, `pg NUM/DEN`, `mf LO HI R`, `plan`
 abbrev pub nameOf : Policy → List ℕ

@@ -5,7 +5,7 @@ ghost use Prim.Native.Nat.{_+_, _*_, _≤_};
 ghost use lib.ListN.{length};
 ghost use Rattle.model.specs.Limits.{recordLimits};
 ghost use Rattle.output.specs.Writing.{WroteIn};
-ghost use Rattle.lab.specs.Jobs.{mostBetas};
+ghost use Rattle.lab.specs.Heard.{mostBetas};
 ghost use Rattle.lab.specs.Table.{lowest as lowestOf, greatestFrom, linesOf, betasOf, comparedOf, mfLine, tableWith, tableText};
 ghost use Rattle.lab.specs.Writing.{BeginsIn, LinedIn};
 ghost use Rattle.output.specs.Output.{outputLimit};

@@ -1,0 +1,94 @@
+// What the arguments ask for.
+ghost use mathlib.Core.Path.{_≡_};
+ghost use lib.ListN.{getD};
+ghost use Rattle.lab_jobs.specs.Jobs.{allBetas, isTable, jobFrom};
+use crate::words::AUDIT;
+use crate::words::BETA;
+use crate::words::GREEDY;
+use crate::words::MF;
+use crate::words::NUMBER;
+use crate::words::PG;
+use crate::words::PLAN;
+use crate::words::RUN;
+use crate::words::TABLE;
+use crate::words::same;
+use model::Beta;
+use model::Marking;
+use text::Policy;
+
+// A command with its room; a table's betas are the words behind its room.
+pub enum Job {
+    Run(Policy, usize),
+    Table(usize),
+    Audit(usize),
+    None,
+}
+
+// The number at a place; 0 where there is none.
+fn at(numbers: &[u32], place: usize) -> u32
+    ensures { λ r. ⌜ r ≡ getD (now (numbers .entry)) place 0 ⌝ }
+{
+    if place < numbers.len() {
+        return numbers[place];
+    }
+    0
+}
+
+fn all_betas(words: &[u8]) -> bool
+    ensures { λ r. ⌜ r ≡ allBetas (now (words .entry)) ⌝ }
+{
+    let mut i = 0;
+    while i < words.len() {
+        if words[i] != BETA {
+            return false;
+        }
+        i += 1;
+    }
+    true
+}
+
+fn is_table(words: &[u8]) -> bool
+    ensures { λ r. ⌜ r ≡ isTable (now (words .entry)) ⌝ }
+{
+    if words.len() < 2 {
+        return false;
+    }
+    if same(&words[..2], &[TABLE, NUMBER]) {
+        return all_betas(&words[2..]);
+    }
+    false
+}
+
+// The job of some words, by their kinds and their numbers.
+pub fn job_from(words: &[u8], firsts: &[u32], seconds: &[u32]) -> Job
+    ensures { λ r. ⌜ r ≡ jobFrom (now (words .entry)) (now (firsts .entry)) (now (seconds .entry)) ⌝ }
+{
+    if same(words, &[RUN, GREEDY, NUMBER]) {
+        return Job::Run(Policy::Greedy, at(firsts, 2) as usize);
+    }
+    if same(words, &[RUN, PG, NUMBER, BETA]) {
+        let beta = Beta {
+            num: at(firsts, 3),
+            den: at(seconds, 3),
+        };
+        return Job::Run(Policy::Pg(beta), at(firsts, 2) as usize);
+    }
+    if same(words, &[RUN, MF, NUMBER, NUMBER, NUMBER, NUMBER]) {
+        let m = Marking {
+            lo: at(firsts, 3),
+            hi: at(firsts, 4),
+            r: at(firsts, 5) as usize,
+        };
+        return Job::Run(Policy::Mf(m), at(firsts, 2) as usize);
+    }
+    if same(words, &[RUN, PLAN, NUMBER]) {
+        return Job::Run(Policy::Plan, at(firsts, 2) as usize);
+    }
+    if is_table(words) {
+        return Job::Table(at(firsts, 1) as usize);
+    }
+    if same(words, &[AUDIT, NUMBER]) {
+        return Job::Audit(at(firsts, 1) as usize);
+    }
+    Job::None
+}
