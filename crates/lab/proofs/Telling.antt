@@ -14,7 +14,7 @@ use Rattle.lab_jobs.specs.declared.jobs.Job.{Job}
 use Rattle.lab.specs.declared.arguments.Arguments.{Arguments}
 use Rattle.lab.specs.declared.arguments.Arguments.the-variants.{Words}
 use Rattle.lab.specs.Heard.{Heard, HeardAs}
-use Rattle.lab.specs.Writing.{Begins}
+use Rattle.lab_table.specs.Writing.{Begins}
 use Rattle.lab.specs.Told.{Few, readText, ToldOf, ToldBy}
 
 -- by what was read

@@ -3,14 +3,12 @@ use Prim.Native.Nat.{ℕ, _+_, _≤_}
 use mathlib.Core.Path.{_≡_}
 use mathlib.Core.List.{List}
 use lib.ListN.{take}
+use Rattle.lab_table.specs.Table.{mostBetas}
 use Rattle.lab_jobs.specs.Jobs.{kindsOf, firstsOf, secondsOf}
 use Rattle.lab.specs.declared.arguments.Arguments.{Arguments}
 use Rattle.lab.specs.declared.arguments.Arguments.the-variants.{Words, Strange}
 
--- the most betas of a table, and the most words of a command: a table's name, its room and its betas
-abbrev pub mostBetas : ℕ
-mostBetas = 32
-
+-- the most words of a command: a table's name, its room and its betas
 abbrev pub mostWords : ℕ
 mostWords = 2 + mostBetas
 

@@ -3,17 +3,15 @@
 mod answer;
 mod arguments;
 mod auditing;
-mod line;
-mod refusal;
-mod table;
 
 ghost use mathlib.Core.Path.{_≡_};
 ghost use Prim.Native.Nat.{_≤_};
 ghost use lib.ListN.{length, drop};
 ghost use Rattle.output.specs.Output.{outputLimit};
-ghost use Rattle.lab.specs.Heard.{mostBetas, mostWords};
+ghost use Rattle.lab_table.specs.Table.{mostBetas};
+ghost use Rattle.lab.specs.Heard.{mostWords};
 ghost use Rattle.lab.specs.Answer.{recordPlaces};
-ghost use Rattle.lab.specs.Writing.{BeginsIn};
+ghost use Rattle.lab_table.specs.Writing.{BeginsIn};
 ghost use Rattle.lab.specs.Told.{ReadFor, Few, readText, ToldOf, ToldBy};
 use answer::answer;
 use arguments::Arguments;

@@ -64,31 +64,40 @@ pub fn job_from(words: &[u8], firsts: &[u32], seconds: &[u32]) -> Job
     ensures { λ r. ⌜ r ≡ jobFrom (now (words .entry)) (now (firsts .entry)) (now (seconds .entry)) ⌝ }
 {
     if same(words, &[RUN, GREEDY, NUMBER]) {
-        return Job::Run(Policy::Greedy, at(firsts, 2) as usize);
+        let room = at(firsts, 2) as usize;
+        return Job::Run(Policy::Greedy, room);
     }
     if same(words, &[RUN, PG, NUMBER, BETA]) {
         let beta = Beta {
             num: at(firsts, 3),
             den: at(seconds, 3),
         };
-        return Job::Run(Policy::Pg(beta), at(firsts, 2) as usize);
+        let room = at(firsts, 2) as usize;
+        return Job::Run(Policy::Pg(beta), room);
     }
     if same(words, &[RUN, MF, NUMBER, NUMBER, NUMBER, NUMBER]) {
+        let lo = at(firsts, 3);
+        let hi = at(firsts, 4);
+        let r = at(firsts, 5) as usize;
         let m = Marking {
-            lo: at(firsts, 3),
-            hi: at(firsts, 4),
-            r: at(firsts, 5) as usize,
+            lo: lo,
+            hi: hi,
+            r: r,
         };
-        return Job::Run(Policy::Mf(m), at(firsts, 2) as usize);
+        let room = at(firsts, 2) as usize;
+        return Job::Run(Policy::Mf(m), room);
     }
     if same(words, &[RUN, PLAN, NUMBER]) {
-        return Job::Run(Policy::Plan, at(firsts, 2) as usize);
+        let room = at(firsts, 2) as usize;
+        return Job::Run(Policy::Plan, room);
     }
     if is_table(words) {
-        return Job::Table(at(firsts, 1) as usize);
+        let room = at(firsts, 1) as usize;
+        return Job::Table(room);
     }
     if same(words, &[AUDIT, NUMBER]) {
-        return Job::Audit(at(firsts, 1) as usize);
+        let room = at(firsts, 1) as usize;
+        return Job::Audit(room);
     }
     Job::None
 }

@@ -14,8 +14,8 @@ same-requires c κs = search needs
 at-requires : tie.Need-at-requires
 at-requires c κs = search needs
 
-cast-t16 : tie.Need-cast-t16
-cast-t16 c = search needs
+cast-room : tie.Need-cast-room
+cast-room c = search needs
 
 returns : tie.Need-returns
 unfolding jobFrom
@@ -36,8 +36,8 @@ at-requires-3 c κs = search needs
 at-requires-4 : tie.Need-at-requires-4
 at-requires-4 c κs = search needs
 
-cast-t23 : tie.Need-cast-t23
-cast-t23 c = search needs
+cast-room-2 : tie.Need-cast-room-2
+cast-room-2 c = search needs
 
 returns-2 : tie.Need-returns-2
 unfolding jobFrom
@@ -58,14 +58,14 @@ at-requires-6 c κs = search needs
 at-requires-7 : tie.Need-at-requires-7
 at-requires-7 c κs = search needs
 
-cast-t30 : tie.Need-cast-t30
-cast-t30 c = search needs
+cast-r : tie.Need-cast-r
+cast-r c = search needs
 
 at-requires-8 : tie.Need-at-requires-8
 at-requires-8 c κs = search needs
 
-cast-t30-2 : tie.Need-cast-t30-2
-cast-t30-2 c = search needs
+cast-room-3 : tie.Need-cast-room-3
+cast-room-3 c = search needs
 
 returns-3 : tie.Need-returns-3
 unfolding jobFrom
@@ -80,8 +80,8 @@ same-requires-4 c κs = search needs
 at-requires-9 : tie.Need-at-requires-9
 at-requires-9 c κs = search needs
 
-cast-t37 : tie.Need-cast-t37
-cast-t37 c = search needs
+cast-room-4 : tie.Need-cast-room-4
+cast-room-4 c = search needs
 
 returns-4 : tie.Need-returns-4
 unfolding jobFrom
@@ -93,8 +93,8 @@ is-table-requires c κs = search needs
 at-requires-10 : tie.Need-at-requires-10
 at-requires-10 c κs = search needs
 
-cast-t40 : tie.Need-cast-t40
-cast-t40 c = search needs
+cast-room-5 : tie.Need-cast-room-5
+cast-room-5 c = search needs
 
 returns-5 : tie.Need-returns-5
 unfolding jobFrom
@@ -109,8 +109,8 @@ same-requires-5 c κs = search needs
 at-requires-11 : tie.Need-at-requires-11
 at-requires-11 c κs = search needs
 
-cast-t45 : tie.Need-cast-t45
-cast-t45 c = search needs
+cast-room-6 : tie.Need-cast-room-6
+cast-room-6 c = search needs
 
 returns-6 : tie.Need-returns-6
 unfolding jobFrom
@@ -127,36 +127,36 @@ job-from-spec =
     slice-aggregate-same
     same-requires
     at-requires
-    cast-t16
+    cast-room
     returns
     slice-aggregate-same-2
     same-requires-2
     at-requires-2
     at-requires-3
     at-requires-4
-    cast-t23
+    cast-room-2
     returns-2
     slice-aggregate-same-3
     same-requires-3
     at-requires-5
     at-requires-6
     at-requires-7
-    cast-t30
+    cast-r
     at-requires-8
-    cast-t30-2
+    cast-room-3
     returns-3
     slice-aggregate-same-4
     same-requires-4
     at-requires-9
-    cast-t37
+    cast-room-4
     returns-4
     is-table-requires
     at-requires-10
-    cast-t40
+    cast-room-5
     returns-5
     slice-aggregate-same-5
     same-requires-5
     at-requires-11
-    cast-t45
+    cast-room-6
     returns-6
     returns-7)
