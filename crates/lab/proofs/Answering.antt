@@ -10,15 +10,16 @@ use Rattle.output.specs.Output.{outputLimit}
 use Rattle.output.specs.Writing.{Wrote}
 use Rattle.output.proofs.Writing.{wrote-same}
 use Rattle.runs.specs.declared.Policy.{Policy}
-use Rattle.lab.specs.declared.jobs.Job.{Job}
-use Rattle.lab.specs.declared.jobs.Job.the-variants.{Run, Table, Audit, None}
+use Rattle.lab_jobs.specs.declared.jobs.Job.{Job}
+use Rattle.lab_jobs.specs.declared.jobs.Job.the-variants.{Run, Table, Audit, None}
 use Rattle.text.specs.Run.{runText, runSpoken}
 use Rattle.text.proofs.Policies.{spoken-all}
-use Rattle.lab.specs.Table.{tableText}
+use Rattle.lab_table.specs.Table.{mostBetas, tableText, tableSpoken}
+use Rattle.lab_table.proofs.Spoken as table
 use Rattle.lab.specs.Audit.{auditText}
 use Rattle.lab.specs.Answer.{answerText, columnsIn}
-use Rattle.lab.specs.Writing.{Begins}
-use Rattle.lab.proofs.Tables.{begins, begins-same}
+use Rattle.lab_table.specs.Writing.{Begins}
+use Rattle.lab_table.proofs.Tables.{begins}
 
 module _ (rows : List ℕ) (count : ℕ) where
   -- what the code lends from a place on
@@ -44,9 +45,11 @@ module _ (rows : List ℕ) (count : ℕ) where
         let spoken = sym (spoken-all policy room (take count rows) (part 2048) out long) in
         begins (wrote-same (spoken ∙ ap (runText policy room (take count rows)) (part-is 2048) ∙ answer-is (Run policy room) is) refl W)
 
-    pub answer-table : {room n : ℕ} {out : List ℕ} → job ≡ Table room → Begins n (tableText room nums dens (take count rows) (part 2048)) out
-        → Begins n answer out
-    answer-table {room} is B = begins-same (ap (tableText room nums dens (take count rows)) (part-is 2048) ∙ answer-is (Table room) is) B
+    pub answer-table : {room n : ℕ} {out out′ : List ℕ} → job ≡ Table room → length dens ≡ length nums → length nums ≤ mostBetas → outputLimit ≤ length out
+        → Wrote 0 (tableSpoken room nums dens (take count rows) (part 2048) out) out n out′ → Begins n answer out′
+    answer-table {room} {out = out} is same few long W =
+        let spoken = sym (table.spoken-all room nums dens (take count rows) (part 2048) out (omega arith) same few) in
+        begins (wrote-same (spoken ∙ ap (tableText room nums dens (take count rows)) (part-is 2048) ∙ answer-is (Table room) is) refl W)
 
     pub answer-audit : {room n : ℕ} {out out′ : List ℕ} → job ≡ Audit room
         → Wrote 0 (auditText room (take count rows) (part 2048) (part 4096) (listsOf (part 6144) (part 8192) (part 10240))) out n out′ → Begins n answer out′

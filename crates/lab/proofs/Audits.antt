@@ -14,7 +14,7 @@ use Rattle.model.specs.Numbers.{causeNumber}
 use Rattle.model.specs.Answers.{Reply, ofAudit}
 use Rattle.model.specs.Calls.{auditCall}
 use Rattle.output.specs.Output.{lineWith, refusalText}
-use Rattle.lab.specs.Line.{countsOf}
+use Rattle.lab_table.specs.Line.{countsOf}
 use Rattle.lab.specs.Audit.{misnumberedFrom, auditHeader, verdictText, auditText}
 
 module _ (answer : AuditAnswer) {verdict reply : Reply} (is : ofAudit answer ≡ verdict) (replies : reply ≡ ofAudit answer) where

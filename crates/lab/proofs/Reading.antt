@@ -24,13 +24,13 @@ use Rattle.input.specs.Reads.{toEnd, ReadToEnd, EndedBy, StoppedLong, Output, O
 use Rattle.input.proofs.Reading as reads
 use Rattle.output.specs.Output.{refusalText}
 use Rattle.lab.specs.declared.Told.the-variants.{Answered}
-use Rattle.lab.specs.declared.jobs.Job.{Job}
-use Rattle.lab.specs.declared.jobs.Job.the-variants.{Run, Table, Audit, None}
+use Rattle.lab_jobs.specs.declared.jobs.Job.{Job}
+use Rattle.lab_jobs.specs.declared.jobs.Job.the-variants.{Run, Table, Audit, None}
 use Rattle.text.specs.Run.{runText}
-use Rattle.lab.specs.Table.{tableText}
-use Rattle.lab.specs.Jobs.{isTable, jobFrom}
+use Rattle.lab_table.specs.Table.{tableText}
+use Rattle.lab_jobs.specs.Jobs.{isTable, jobFrom}
 use Rattle.lab.specs.Answer.{columnsIn, answerText, headerOf, inputText, labOutput}
-use Rattle.lab.specs.Writing.{Begins}
+use Rattle.lab_table.specs.Writing.{Begins}
 use Rattle.lab.specs.Told.{placesOf, ReadFor, Few, readText, wordsOutput, ToldBy}
 
 letters : (job : Job) → HeaderOfLetters (headerOf job)

@@ -10,11 +10,11 @@ use Rattle.rows.specs.declared.Rows.{Rows}
 use Rattle.rows.specs.declared.Rows.the-variants.{Read}
 use Rattle.lab.specs.declared.Told.{Told}
 use Rattle.lab.specs.declared.Told.the-variants.{Answered}
-use Rattle.lab.specs.declared.jobs.Job.{Job}
+use Rattle.lab_jobs.specs.declared.jobs.Job.{Job}
 use Rattle.lab.specs.declared.arguments.Arguments.{Arguments}
 use Rattle.lab.specs.declared.arguments.Arguments.the-variants.{Words}
-use Rattle.lab.specs.Jobs.{Heard, HeardAs}
-use Rattle.lab.specs.Writing.{Begins}
+use Rattle.lab.specs.Heard.{Heard, HeardAs}
+use Rattle.lab_table.specs.Writing.{Begins}
 use Rattle.lab.specs.Told.{Few, readText, ToldOf, ToldBy}
 
 -- by what was read

@@ -12,10 +12,10 @@ use Rattle.signs.specs.Signs.{traceHeader, recordHeader}
 use Rattle.rows.specs.Input.{Input, malformed, rows, columnOf}
 use Rattle.rows.specs.Table.{columnIn}
 use Rattle.output.specs.Output.{refusalText}
-use Rattle.lab.specs.declared.jobs.Job.{Job}
-use Rattle.lab.specs.declared.jobs.Job.the-variants.{Run, Table, Audit, None}
+use Rattle.lab_jobs.specs.declared.jobs.Job.{Job}
+use Rattle.lab_jobs.specs.declared.jobs.Job.the-variants.{Run, Table, Audit, None}
 use Rattle.text.specs.Run.{runText}
-use Rattle.lab.specs.Table.{tableText}
+use Rattle.lab_table.specs.Table.{tableText}
 use Rattle.lab.specs.Audit.{auditText}
 
 -- a trace is the columns slot and value; a record is number, slot, value, fate, when and by

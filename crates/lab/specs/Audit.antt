@@ -10,7 +10,7 @@ use Rattle.model.specs.Answers.{Reply}
 use Rattle.model.specs.Calls.{auditCall}
 use Rattle.signs.specs.Signs.{cr, lf}
 use Rattle.output.specs.Output.{lineWith, refusalText}
-use Rattle.lab.specs.Line.{countsOf}
+use Rattle.lab_table.specs.Line.{countsOf}
 
 -- the line of the first row whose number is not its place, 0 where each is; the header is line 1, so the row at place 1 is line 2
 unfoldable pub misnumberedFrom : ℕ → List ℕ → ℕ

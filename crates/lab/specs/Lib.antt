@@ -1,9 +1,5 @@
 -- The lab program: what it says of a job and its input.
-pub mod Line
-pub mod Table
 pub mod Audit
-pub mod Words
-pub mod Jobs
-pub mod Writing
+pub mod Heard
 pub mod Answer
 pub mod Told

@@ -13,8 +13,8 @@ use Rattle.input.specs.Reads.{EndedBy, Output, Overlong}
 use Rattle.output.specs.Output.{refusalText}
 use Rattle.lab.specs.declared.Told.{Told}
 use Rattle.lab.specs.declared.Told.the-variants.{Answered, Failed, TooLong}
-use Rattle.lab.specs.declared.jobs.Job.{Job}
-use Rattle.lab.specs.Jobs.{jobFrom, kindsOf, firstsOf, secondsOf}
+use Rattle.lab_jobs.specs.declared.jobs.Job.{Job}
+use Rattle.lab_jobs.specs.Jobs.{jobFrom, kindsOf, firstsOf, secondsOf}
 use Rattle.lab.specs.Answer.{columnsIn, answerText, headerOf, labOutput}
 
 -- the places of the table that the columns of a job's header take: the first

@@ -4,12 +4,12 @@ ghost use Prim.Native.Nat.{_≤_};
 ghost use lib.ListN.{length};
 ghost use Rattle.model.specs.Limits.{recordLimits};
 ghost use Rattle.output.specs.Output.{outputLimit};
-ghost use Rattle.lab.specs.Jobs.{mostBetas};
+ghost use Rattle.lab_table.specs.Table.{mostBetas};
 ghost use Rattle.lab.specs.Answer.{recordPlaces, columnsIn, answerText};
-ghost use Rattle.lab.specs.Writing.{BeginsIn};
+ghost use Rattle.lab_table.specs.Writing.{BeginsIn};
 use crate::auditing::check;
-use crate::jobs::Job;
-use crate::table::table;
+use lab_jobs::jobs::Job;
+use lab_table::table;
 use model::Record;
 use text::run;
 

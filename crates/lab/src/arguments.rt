@@ -1,8 +1,8 @@
 // The program's arguments as words, in three lent lists.
 ghost use mathlib.Core.Path.{_≡_};
 ghost use lib.ListN.{length};
-ghost use Rattle.lab.specs.Jobs.{mostWords, HeardAs};
-use crate::words::word_of;
+ghost use Rattle.lab.specs.Heard.{mostWords, HeardAs};
+use lab_jobs::words::word_of;
 
 // The most words: a command, its room and 32 betas.
 pub const WORDS: usize = 34;

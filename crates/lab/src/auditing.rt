@@ -7,7 +7,7 @@ ghost use Rattle.model.specs.Calls.{auditCall};
 ghost use Rattle.model.specs.Lent.{listsBefore};
 ghost use Rattle.output.specs.Writing.{WroteIn};
 ghost use Rattle.lab.specs.Audit.{misnumberedFrom, verdictText, auditText};
-use crate::line::counts_of;
+use lab_table::counts_of;
 use model::Cause;
 use output::put;
 use output::put_line;

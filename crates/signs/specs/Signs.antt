@@ -15,6 +15,9 @@ comma = 44
 abbrev pub quote : ℕ
 quote = 34
 
+abbrev pub slash : ℕ
+slash = 47
+
 -- `slot,value`
 abbrev pub traceHeader : List ℕ
 traceHeader = 115 ∷ 108 ∷ 111 ∷ 116 ∷ 44 ∷ 118 ∷ 97 ∷ 108 ∷ 117 ∷ 101 ∷ []

@@ -4,7 +4,7 @@ use mathlib.Core.Path.{refl, ap}
 use native.Mathlib.Omega.{arith}
 use Rattle.output.specs.Output.{refusalText}
 use Rattle.output.proofs.Writing.{wrote-same}
-use Rattle.lab.proofs.Tables.{begins}
+use Rattle.lab_table.proofs.Tables.{begins}
 use Rattle.lab.proofs.Telling.{few-rows, said-by}
 use borrow.Author.Needs.{needs}
 use Rattle.lab.proofs.say.Statement.{statement}

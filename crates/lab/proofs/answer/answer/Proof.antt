@@ -56,9 +56,7 @@ part-table-end : tie.Need-part-table-end
 part-table-end c = search needs
 
 table-requires : tie.Need-table-requires
-table-requires c κs =
-    let first = length-take-le (c .before .before .before .before .before .before .before .before .before .before .args .count) (c .before .before .before .before .before .before .before .before .before .before .args .rows .now) (omega (arith, c .before .before .before .before .before .before .before .before .before .before .pre .1 .1 .0, c .before .before .before .before .before .before .before .before .before .before .pre .1 .1 .1 .0)) in
-    (omega (arith, c .before .before .before .before .before .before .before .before .before .before .pre .1 .1 .1 .0), (c .before .before .before .before .before .before .before .before .before .before .pre .0, (c .before .before .before .before .before .before .before .before .before .before .pre .1 .0, c .before .before .before .before .before .before .before .before .before .before .pre .1 .1 .1 .1)))
+table-requires c κs = search needs
 
 enum-known-job-3 : tie.Need-enum-known-job-3
 enum-known-job-3 c = search needs
@@ -129,7 +127,10 @@ same-length-2 : tie.Need-same-length-2
 same-length-2 c = search needs
 
 returns-2 : tie.Need-returns-2
-returns-2 c = answer-table (c .before .before .before .before .before .before .before .before .before .before .before .before .before .args .rows .now) (c .before .before .before .before .before .before .before .before .before .before .before .before .before .args .count) (c .before .before .before .before .before .before .before .before .before .before .before .before .before .args .job) (c .before .before .before .before .before .before .before .before .before .before .before .before .before .args .nums .now) (c .before .before .before .before .before .before .before .before .before .before .before .before .before .args .dens .now) (c .before .before .before .before .before .before .before .job2 .given .1) (c .before .before .table .ensures)
+returns-2 c =
+    let a = c .before .before .before .before .before .before .before .before .before .before .before .before .before .args in
+    let pre = c .before .before .before .before .before .before .before .before .before .before .before .before .before .pre in
+    answer-table (a .rows .now) (a .count) (a .job) (a .nums .now) (a .dens .now) (c .before .before .before .before .before .before .before .job2 .given .1) (pre .0) (pre .1 .0) (pre .1 .1 .1 .1) (c .before .before .table .ensures)
 
 same-length-3 : tie.Need-same-length-3
 same-length-3 c = search needs

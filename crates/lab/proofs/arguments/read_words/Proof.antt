@@ -3,9 +3,9 @@ use Prim.Native.Nat.{_-_, _≤_}
 use mathlib.Core.Path.{_≡_, refl, sym, ap, _∙_}
 use native.Mathlib.Omega.{arith}
 use lib.ListN.{length, length-set}
-use Rattle.lab.specs.declared.words.Word.{Word}
-use Rattle.lab.specs.Jobs.{Heard}
-use Rattle.lab.proofs.Asking.{heard-none, heard-more, heard-at}
+use Rattle.lab_jobs.specs.declared.words.Word.{Word}
+use Rattle.lab.specs.Heard.{Heard}
+use Rattle.lab.proofs.Hearing.{heard-none, heard-more, heard-at}
 use borrow.Author.Needs.{needs}
 use Rattle.lab.proofs.arguments.read_words.Statement.{statement}
 use Rattle.lab.proofs.arguments.read_words.Tie as tie

@@ -7,7 +7,7 @@ use lib.ListN.{length}
 use Rattle.output.specs.Output.{lineWith}
 use Rattle.output.proofs.Writing.{wrote-same, wrote-both}
 use Rattle.lab.specs.Audit.{auditHeader}
-use Rattle.lab.proofs.Chain.{wrote-long}
+use Rattle.lab_table.proofs.Chain.{wrote-long}
 use Rattle.lab.proofs.Audits.{verdict-some, verdict-passed}
 use borrow.Author.Needs.{needs}
 use Rattle.lab.proofs.auditing.say.Statement.{statement}

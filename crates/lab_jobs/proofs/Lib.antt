@@ -1,0 +1,3 @@
+-- Laws on plain values, for the proofs of this crate.
+pub mod Wording
+pub mod Asking

@@ -1,0 +1,3 @@
+-- What the arguments of the lab program ask for.
+pub mod Words
+pub mod Jobs

@@ -1,0 +1,4 @@
+-- The table as text.
+pub mod Line
+pub mod Table
+pub mod Writing
