@@ -1,4 +1,6 @@
 // The audit of anyone's record: the first fault against the buffer's rules, or the totals. What it answers stands in crate model.
+#![tactic(auto)]
+
 ghost use Rattle.std.specs.Prelude.{◌≡◌, false, ◌+◌, ◌≤◌, ◌<◌, min, max, length};
 ghost use Rattle.model.specs.Packets.{arrivals};
 ghost use Rattle.model.specs.Record.{rows, lists_of};
@@ -19,21 +21,21 @@ use totals::{only_if, totals};
 use trace::Checked;
 
 // What a record's number of a fate names.
-#[derive(Drop)]
+#[derive(Clone, Copy)]
 enum Named {
     Fate(Fate),
     Outside,
 }
 
 // What stands at a place: a row, or a fate that is none.
-#[derive(Drop)]
+#[derive(Clone, Copy)]
 enum Read {
     Row(FatedRow),
     Outside,
 }
 
 // What the sweep over all packets finds: no fault and the most held, or the first fault.
-#[derive(Drop)]
+#[derive(Clone, Copy)]
 enum Swept {
     Clear(u32),
     Faulty(FirstFault),

@@ -1,4 +1,6 @@
 // The faults of one packet against the buffer's rules: 12, 13 and 14. What they are stands in crate model.
+#![tactic(auto)]
+
 ghost use Rattle.std.specs.Prelude.{◌≡◌, suc};
 ghost use Rattle.model.specs.declared.Fate.TheVariants as Fate;
 ghost use Rattle.model.specs.Limits.{within};
@@ -9,7 +11,7 @@ use entry::slot_of;
 use model::{Fate, Fault, PacketNumber, Slot};
 
 // A packet of the trace beside what the record says of it, its fate being one.
-#[derive(Drop)]
+#[derive(Clone, Copy)]
 pub struct FatedRow {
     pub number: PacketNumber,
     pub slot: Slot,
@@ -20,7 +22,7 @@ pub struct FatedRow {
 }
 
 // The first fault of one packet.
-#[derive(Drop)]
+#[derive(Clone, Copy)]
 pub enum Found {
     Nothing,
     Fault(Fault),

@@ -1,5 +1,7 @@
 // The bench program: it reads standard input to its end and writes the answer. Where reading or writing fails it ends quietly. It stops too where the
 // input is as long as a line's number can count, which no input is.
+#![tactic(auto)]
+
 ghost use Rattle.std.specs.Prelude.{◌≤◌, length};
 ghost use Rattle.output.specs.Output.{output_limit};
 ghost use Rattle.bench.specs.Reads.{ToldBy};
@@ -11,7 +13,7 @@ use signs::TRACE;
 use text::TABLE;
 
 // What there is to say: so many bytes to write, or nothing, where a read failed or the input was longer than can be counted.
-#[derive(Drop)]
+#[derive(Clone, Copy)]
 enum Told {
     Answered(usize),
     Failed,

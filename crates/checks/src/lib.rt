@@ -1,4 +1,6 @@
 // Tests of numbers and of lists of them that several calls make.
+#![tactic(auto)]
+
 pub mod ranges;
 
 ghost use Rattle.std.specs.Prelude.{◌≡◌, eqb};

@@ -6,7 +6,7 @@ use crate::lists::{get, more, put};
 use model::{Beta, Marking};
 
 // The numbers of a case. The length of each list is a field, since bad arguments make a list one longer or one shorter than n.
-#[derive(Drop)]
+#[derive(Clone, Copy)]
 pub struct Case {
     pub n: u32,
     pub room: usize,
@@ -40,7 +40,7 @@ impl Case {
 }
 
 // How the values of a trace are drawn: kind, one, a and b of item 3.
-#[derive(Drop)]
+#[derive(Clone, Copy)]
 struct Values {
     kind: u32,
     one: u32,

@@ -8,7 +8,7 @@ use model::{Beta, PacketNumber};
 use port::Port;
 
 // The numbers of a port, beside the lists that become its places.
-#[derive(Drop)]
+#[derive(Clone, Copy)]
 struct Hand {
     room: u32,
     num: u32,

@@ -1,4 +1,6 @@
 // Answers the random cases of second/CASES.md with the proved calls, and writes one line for each batch of them.
+#![tactic(auto)]
+
 mod answers;
 mod bad;
 mod calls;

@@ -1,4 +1,6 @@
 // A packet's entry in a list that has one for each packet of the trace, and in the three lists of a record.
+#![tactic(auto)]
+
 ghost use Rattle.std.specs.Prelude.{◌≡◌, get_or, set};
 ghost use Rattle.model.specs.Packets.{place_of, slot_of, number_of};
 ghost use Rattle.model.specs.Record.{enter as entering, lists_of};

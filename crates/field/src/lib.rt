@@ -1,4 +1,6 @@
 // One field of a line, byte by byte: a name or a number, quoted or not. Every function takes any field, and states all that it answers.
+#![tactic(auto)]
+
 ghost use Rattle.std.specs.Prelude.{◌≡◌, ◌≤◌};
 ghost use Rattle.field.specs.Reading.{fresh_field, bad_field, staged, digit_taken, letter_taken, taken, field_after, whole_kind, kind_at, is_fresh, is_bad};
 
@@ -10,7 +12,7 @@ const DIGITS: u32 = 7;
 const FULL: u32 = 1_000_000;
 
 // Where in a field a parser stands: before its first byte, in one without quotes, between the quotes, behind them, or in a line that is bad.
-#[derive(Drop)]
+#[derive(Clone, Copy)]
 pub enum Stage {
     Fresh,
     Bare,
@@ -20,7 +22,7 @@ pub enum Stage {
 }
 
 // What a field holds: the header's name, a number, or neither.
-#[derive(Drop)]
+#[derive(Clone, Copy)]
 pub enum Kind {
     Neither,
     Name,
@@ -28,7 +30,7 @@ pub enum Kind {
 }
 
 // What a field has held so far: letters of the header's name, or digits of a number.
-#[derive(Drop)]
+#[derive(Clone, Copy)]
 pub struct Field {
     pub stage: Stage,
     pub letters: usize,

@@ -1,4 +1,6 @@
 // The proved calls for the benchmark, a Rust program, to link: the runs, the audit and a live port, on numbers and slices.
+#![tactic(auto)]
+
 mod live;
 mod said;
 

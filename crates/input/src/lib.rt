@@ -1,5 +1,7 @@
 // Standard input, read to its end in pieces, as rows of numbers under a header, into a lent table. It stops where a read fails, and where the input is as
 // long as a line's number can count, which no input is.
+#![tactic(auto)]
+
 ghost use Rattle.rows.specs.Reading.{state};
 ghost use Rattle.input.specs.Reads.{ReadOnce, EndedBy};
 
@@ -13,14 +15,14 @@ const PIECE: usize = 4_096;
 const BYTES: u64 = u64::MAX - 2;
 
 // A piece of the input: the parser after it and its length, 0 at the end, or that reading failed.
-#[derive(Drop)]
+#[derive(Clone, Copy)]
 enum Piece {
     Came(Parser, usize),
     Failed,
 }
 
 // How reading ended: at the end of the input, with a read that failed, or with more input than can be counted.
-#[derive(Drop)]
+#[derive(Clone, Copy)]
 pub enum Ended {
     Read(Rows),
     Failed,

@@ -11,7 +11,7 @@ pub const WORDS: usize = 34;
 const BYTES: usize = 24;
 
 // So many words; or more of them, or a longer one, than any command has.
-#[derive(Drop)]
+#[derive(Clone, Copy)]
 pub enum Arguments {
     Words(usize),
     Strange,

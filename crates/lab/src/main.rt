@@ -1,5 +1,7 @@
 // The lab program: it reads its arguments and standard input, and writes the answer. Where the arguments ask for nothing, or reading or writing fails,
 // it ends quietly.
+#![tactic(auto)]
+
 mod answer;
 mod arguments;
 mod auditing;
@@ -28,7 +30,7 @@ const TRACE_TABLE: usize = 2 * Record::PACKETS;
 const RECORD_TABLE: usize = 6 * Record::PACKETS;
 
 // What there is to say: so many bytes to write, or nothing, where a read failed or the input was longer than can be counted.
-#[derive(Drop)]
+#[derive(Clone, Copy)]
 enum Told {
     Answered(usize),
     Failed,

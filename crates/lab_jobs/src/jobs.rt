@@ -7,7 +7,7 @@ use model::{Beta, Marking};
 use runs::Policy;
 
 // A command with its room; a table's betas are the words behind its room.
-#[derive(Drop)]
+#[derive(Clone, Copy)]
 pub enum Job {
     Run(Policy, usize),
     Table(usize),

@@ -29,14 +29,14 @@ pub const BETA: u8 = 9;
 // The most digits of a number.
 const DIGITS: usize = 7;
 
-#[derive(Drop)]
+#[derive(Clone, Copy)]
 pub enum Number {
     Is(u32),
     Not,
 }
 
 // A word's kind, and its numbers: one of a number, two of a beta.
-#[derive(Drop)]
+#[derive(Clone, Copy)]
 pub struct Word {
     pub kind: u8,
     pub first: u32,

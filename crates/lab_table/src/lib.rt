@@ -1,4 +1,6 @@
 // The table as text: a line for each policy. What another crate can call takes lists of any length.
+#![tactic(auto)]
+
 ghost use Rattle.std.specs.Prelude.{◌≡◌};
 ghost use Rattle.model.specs.Lent.{was};
 ghost use Rattle.output.specs.Writing.{WroteIn};

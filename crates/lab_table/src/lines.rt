@@ -14,7 +14,7 @@ const HEADER: [u8; 75] =
     *b"policy,sent,value,rejected,pushed out,preempted,flushed,most held,of plan\r\n";
 
 // Where the lines end, or the first refusal.
-#[derive(Drop)]
+#[derive(Clone, Copy)]
 pub enum Lined {
     At(usize),
     Refused(Refusal),

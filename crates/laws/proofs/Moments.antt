@@ -79,7 +79,7 @@ module _ (slots : List ℕ) where
   pub record Since (now last : ℕ) (e : Entry) : Type 0 where
     pub by_right : by_wrong (length slots) (row_for e) ≡ false
     pub when_right : when_wrong slots (row_for e) ≡ false
-    pub held_then_lem : e.number.0 ≤ last → held_by now last e ≡ true
+    pub held_then : e.number.0 ≤ last → held_by now last e ≡ true
 
   -- made between two moments
   pub record Between (now last now' last' : ℕ) (e : Entry) : Type 0 where
@@ -92,7 +92,7 @@ module _ (slots : List ℕ) where
       record {
         by_right = h.by_right;
         when_right = h.when_right;
-        held_then_lem = λ n. held_as_before e.fate now now' last last' e.when.0 e.by.0 a b (h.held_then (omega arith));
+        held_then = λ n. held_as_before e.fate now now' last last' e.when.0 e.by.0 a b (h.held_then (omega arith));
       }
 
 pub gone_later : (now last now' last' : ℕ) → now ≤ now' → last ≤ last' → (e : Entry) → held_by now last e ≡ false → held_by now' last' e ≡ false
@@ -120,7 +120,7 @@ module _ (slots : List ℕ) (last : ℕ) (at : Slot) (A : Arrived slots at.0 las
         since = record {
           by_right = refl;
           when_right = rw (le-ltb at.0 (slot_of slots p.number).0 (A.by_now (p.number.0 - 1) (omega arith)));
-          held_then_lem = λ n. le-leb now at.0 from;
+          held_then = λ n. le-leb now at.0 from;
         };
         gone = lt-leb till at.0 before;
       }
@@ -132,7 +132,7 @@ module _ (slots : List ℕ) (last : ℕ) (at : Slot) (A : Arrived slots at.0 las
         since = record {
           by_right = rw (h.fate, le-leb (suc e.number.0) e.by.0 h.older, le-leb e.by.0 (length slots) (omega (arith, h.marked, A.counted)));
           when_right = rw (h.fate, h.when, le-ltb at.0 (slot_of slots e.by).0 (A.by_now (e.by.0 - 1) (omega arith)));
-          held_then_lem = λ n. rw (h.fate, h.when) (le-leb now at.0 from);
+          held_then = λ n. rw (h.fate, h.when) (le-leb now at.0 from);
         };
         gone = rw (h.fate, h.when) (lt-leb till at.0 before);
       }
@@ -148,7 +148,7 @@ module _ (slots : List ℕ) (now last : ℕ) (a : Arrival) (N : Next slots now l
         since = record {
           by_right = rw (eq-eqb a.packet.number.0 a.packet.number.0 refl);
           when_right = rw (eq-eqb a.slot.0 (slot_of slots a.packet.number).0 (sym its_slot));
-          held_then_lem = λ n. absurd (omega (arith, N.number));
+          held_then = λ n. absurd (omega (arith, N.number));
         };
         gone = refl;
       }
@@ -168,6 +168,6 @@ module _ (slots : List ℕ) (now last : ℕ) (a : Arrival) (N : Next slots now l
           eqb a.slot.0 (slot_of slots a.packet.number).0 ≡ true → ltb last a.packet.number.0 ≡ true → ltb (suc last) a.packet.number.0 ≡ false →
           Between slots a.slot.0 last a.slot.0 (suc last) (lost_to a (record { packet = p; kind = kind }))
       go kinds.PushedOut older counted slot then gone =
-          record { since = record { by_right = rw (older, counted); when_right = rw slot; held_then_lem = λ n. then }; gone = gone }
+          record { since = record { by_right = rw (older, counted); when_right = rw slot; held_then = λ n. then }; gone = gone }
       go kinds.Preempted older counted slot then gone =
-          record { since = record { by_right = rw (older, counted); when_right = rw slot; held_then_lem = λ n. then }; gone = gone }
+          record { since = record { by_right = rw (older, counted); when_right = rw slot; held_then = λ n. then }; gone = gone }

@@ -3,7 +3,7 @@
 use Prim.Native.Nat.{ℕ, ◌+◌, ◌-◌, ◌≤◌}
 use native.Mathlib.Omega.{arith}
 use mathlib.Core.Path.{◌≡◌, refl}
-use mathlib.Core.Bool.{true, and-eq-true_iff}
+use mathlib.Core.Bool.{cond, true, and-eq-true_iff}
 use mathlib.Core.List.{List, [], ◌∷◌}
 use lib.ListN.{length, replicate, length-append}
 use lib.Dec.{leb}
@@ -87,7 +87,7 @@ unfolding keep_in_turn
 keep_in_turn_fits room trace kept [] h = h
 keep_in_turn_fits room trace kept (a ∷ turn) h =
     let more = keep a.packet.number kept in
-    keep_in_turn_fits room trace _ turn
+    keep_in_turn_fits room trace (cond (fits room trace more) more kept) turn
     (cond_cases (λ kept. fits room trace kept ≡ true) (fits room trace more) more kept (λ e. e) (λ e. h))
 
 pub plan_kept_fits : (room : ℕ) (trace : List Arrival) → fits room trace (plan_kept room trace) ≡ true

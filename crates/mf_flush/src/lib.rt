@@ -1,4 +1,6 @@
 // The ends of slots under MF: the slot's hi packets mark, the head's mark flushes, and the head is sent.
+#![tactic(auto)]
+
 ghost use Rattle.model.specs.Lent.{was};
 ghost use Rattle.mf_flush.specs.Flush.{MovesMF, ending_in};
 

@@ -1,4 +1,6 @@
 // MF's marks: one number for each packet of the trace, that of the packet that marked it, 0 for none.
+#![tactic(auto)]
+
 ghost use Rattle.std.specs.Prelude.{◌≡◌};
 ghost use Rattle.model.specs.Policies.MF.{mark_of, marks_after};
 ghost use Rattle.model.specs.Lent.{was};

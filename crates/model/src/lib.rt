@@ -1,4 +1,6 @@
 // The kinds that every crate speaks of: packet numbers and slots, what the record says of a packet, totals, and the answers of the calls. What they mean stands in specs/.
+#![tactic(auto)]
+
 ghost use Rattle.std.specs.Prelude.{◌≡◌};
 ghost use Rattle.model.specs.Limits.{record_limits};
 ghost use Rattle.model.specs.Numbers.{fate_number, cause_number, fault_number};
@@ -7,15 +9,15 @@ ghost use Rattle.model.specs.Totals.{no_totals};
 ghost use Rattle.model.specs.Packets.{nobody as noPacket};
 
 // The number of a packet, from 1; 0 where there is none. The index of document 000.
-#[derive(Drop)]
+#[derive(Clone, Copy)]
 pub struct PacketNumber(pub u32);
 
 // A slot. The time of document 000.
-#[derive(Drop)]
+#[derive(Clone, Copy)]
 pub struct Slot(pub u32);
 
 // A packet as a queue holds it.
-#[derive(Drop)]
+#[derive(Clone, Copy)]
 pub struct Packet {
     pub number: PacketNumber,
     pub value: u32,
@@ -34,21 +36,21 @@ impl Packet {
 }
 
 // PG's beta, num / den. It is never divided.
-#[derive(Drop)]
+#[derive(Clone, Copy)]
 pub struct Beta {
     pub num: u32,
     pub den: u32,
 }
 
 // A rule for arrivals: plain greedy, or PG with its beta. They differ in the beta step alone.
-#[derive(Drop)]
+#[derive(Clone, Copy)]
 pub enum Rule {
     Greedy,
     PG(Beta),
 }
 
 // MF's parameters: the two values, and how many packets one of hi marks.
-#[derive(Drop)]
+#[derive(Clone, Copy)]
 pub struct Marking {
     pub lo: u32,
     pub hi: u32,
@@ -56,7 +58,7 @@ pub struct Marking {
 }
 
 // What can become of a packet.
-#[derive(Drop)]
+#[derive(Clone, Copy)]
 pub enum Fate {
     Sent,
     Rejected,
@@ -81,7 +83,7 @@ impl Fate {
 }
 
 // The kind of a trace and its record, by which their limits are named. A record itself is three lists that the caller lends.
-#[derive(Drop)]
+#[derive(Clone, Copy)]
 pub struct Record {}
 
 impl Record {
@@ -107,7 +109,7 @@ impl Record {
 }
 
 // The limits of a trace, of its record and of mark-and-flush's r.
-#[derive(Drop)]
+#[derive(Clone, Copy)]
 pub struct RecordLimits {
     pub packets: usize,
     pub slot: u32,
@@ -116,14 +118,14 @@ pub struct RecordLimits {
 }
 
 // A number of packets and the sum of their values.
-#[derive(Drop)]
+#[derive(Clone, Copy)]
 pub struct Tally {
     pub count: u32,
     pub value: u32,
 }
 
 // The totals of a record.
-#[derive(Drop)]
+#[derive(Clone, Copy)]
 pub struct Totals {
     pub arrived: Tally,
     pub sent: Tally,
@@ -153,7 +155,7 @@ impl Totals {
 }
 
 // Why a call is refused.
-#[derive(Drop)]
+#[derive(Clone, Copy)]
 pub enum Cause {
     Lengths,
     Packets,
@@ -186,14 +188,14 @@ impl Cause {
 }
 
 // A refusal: its cause, and its place (a packet's number or a line's), 0 where none is named.
-#[derive(Drop)]
+#[derive(Clone, Copy)]
 pub struct Refusal {
     pub cause: Cause,
     pub place: u32,
 }
 
 // How a packet's entry can break the buffer's rules.
-#[derive(Drop)]
+#[derive(Clone, Copy)]
 pub enum Fault {
     FateOutside,
     ByWrong,
@@ -218,14 +220,14 @@ impl Fault {
 }
 
 // The first fault of a record, and the packet that has it.
-#[derive(Drop)]
+#[derive(Clone, Copy)]
 pub struct FirstFault {
     pub fault: Fault,
     pub packet: PacketNumber,
 }
 
 // How a held packet can be lost to an arrival.
-#[derive(Drop)]
+#[derive(Clone, Copy)]
 pub enum LossKind {
     PushedOut,
     Preempted,
@@ -244,14 +246,14 @@ impl LossKind {
 }
 
 // A held packet that an arrival cost.
-#[derive(Drop)]
+#[derive(Clone, Copy)]
 pub struct Loss {
     pub packet: Packet,
     pub kind: LossKind,
 }
 
 // What a call on a trace says: 0, or a refusal's or a fault's number with its place; and the totals, zero throughout where there are none.
-#[derive(Drop)]
+#[derive(Clone, Copy)]
 pub struct Reply {
     pub number: u32,
     pub place: u32,
@@ -261,7 +263,7 @@ pub struct Reply {
 // What a live call says, zeros where there is none of these. Its number is a refusal's; 0 for an arrival held at no cost, an idle slot and a made port;
 // else that of a fate, and whose it is: 2 rejected, the arrival's own; 3 pushed out and 4 preempted, that of `packet`, lost to the arrival, which is
 // held; 1 sent, that of `packet`.
-#[derive(Drop)]
+#[derive(Clone, Copy)]
 pub struct PortReply {
     pub number: u32,
     // The refusal's place.
@@ -273,14 +275,14 @@ pub struct PortReply {
 }
 
 // What a policy or the offline plan answers.
-#[derive(Drop)]
+#[derive(Clone, Copy)]
 pub enum RunAnswer {
     Ran(Totals),
     Refused(Refusal),
 }
 
 // What the audit answers. Where it names a fault its totals are all 0.
-#[derive(Drop)]
+#[derive(Clone, Copy)]
 pub enum AuditAnswer {
     Passed(Totals),
     Faulty(FirstFault),
@@ -288,7 +290,7 @@ pub enum AuditAnswer {
 }
 
 // What a live arrival answers, with the number that the packet was given.
-#[derive(Drop)]
+#[derive(Clone, Copy)]
 pub enum ArrivalAnswer {
     Held(PacketNumber),
     HeldLosing(PacketNumber, Loss),
@@ -297,7 +299,7 @@ pub enum ArrivalAnswer {
 }
 
 // What a live end of slot answers.
-#[derive(Drop)]
+#[derive(Clone, Copy)]
 pub enum SlotAnswer {
     Sent(Packet),
     Idle,
@@ -305,7 +307,7 @@ pub enum SlotAnswer {
 }
 
 // What the making of a port answers.
-#[derive(Drop)]
+#[derive(Clone, Copy)]
 pub enum MakingAnswer {
     Made,
     Refused(Refusal),

@@ -1,5 +1,7 @@
 // Writing the output of a program: bytes, numbers, lines of numbers, a refusal, and a record's rows, each from a place of a lent list on. A function
 // answers the place behind what it wrote. Where the list has fewer places than the longest text of its kind takes, it writes nothing and answers `at`.
+#![tactic(auto)]
+
 ghost use Rattle.std.specs.Prelude.{◌+◌, ◌*◌, length};
 ghost use Rattle.model.specs.Lent.{lists_before};
 ghost use Rattle.output.specs.Output.{decimal, line_with, refusal_text};

@@ -1,5 +1,7 @@
 // The packets that the offline plan keeps: 1 for each that is kept, 0 for every other. Beside it stands how many kept packets are held just after each arrival,
 // so that a packet is tried on the arrivals that would find it still held, and on no others.
+#![tactic(auto)]
+
 ghost use Rattle.std.specs.Prelude.{◌≡◌, [], ◌∷◌, ◌<◌, length, replicate};
 ghost use Rattle.model.specs.Packets.{arrivals};
 ghost use Rattle.model.specs.Refusals.{value_ok};

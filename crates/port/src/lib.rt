@@ -1,4 +1,6 @@
 // The live PG port, a value, with the limits that belong to it. What its calls mean stands over plain lists in crate model.
+#![tactic(auto)]
+
 mod places;
 
 ghost use Rattle.std.specs.Prelude.{◌≡◌, true, [], ◌∷◌, ◌++◌, ◌≤◌, ◌<◌};
@@ -18,7 +20,7 @@ use model::{
 use queue::{Choice, decide};
 
 // Room, beta, the last number given, and the held packets in order: the oldest at place 0, unused places zero.
-#[derive(Drop)]
+#[derive(Clone, Copy)]
 pub struct Port {
     pub room: usize,
     pub beta: Beta,
@@ -29,7 +31,7 @@ pub struct Port {
 }
 
 // The limits of a port.
-#[derive(Drop)]
+#[derive(Clone, Copy)]
 pub struct Limits {
     pub room: usize,
     pub beta: u32,
@@ -37,28 +39,28 @@ pub struct Limits {
 }
 
 // What the making of a port hands back.
-#[derive(Drop)]
+#[derive(Clone, Copy)]
 pub struct MadePort {
     pub port: Port,
     pub answer: MakingAnswer,
 }
 
 // What an arrival hands back.
-#[derive(Drop)]
+#[derive(Clone, Copy)]
 pub struct PortArrival {
     pub port: Port,
     pub answer: ArrivalAnswer,
 }
 
 // What an end of slot hands back.
-#[derive(Drop)]
+#[derive(Clone, Copy)]
 pub struct PortSlot {
     pub port: Port,
     pub answer: SlotAnswer,
 }
 
 // A packet that was held, and the port without it.
-#[derive(Drop)]
+#[derive(Clone, Copy)]
 struct Taken {
     port: Port,
     packet: Packet,

@@ -1,4 +1,6 @@
 // What a policy decides of one arrival, from the values of the held packets, oldest first. No copy of the held list is made.
+#![tactic(auto)]
+
 ghost use Rattle.std.specs.Prelude.{◌≡◌};
 ghost use Rattle.model.specs.Policies.PG.{preempted_at};
 ghost use Rattle.queue.specs.Choose.{lowest_of, newest_of, overflow_choice, greedy_choice, choose, of_choice};
@@ -7,7 +9,7 @@ ghost use Rattle.queue.specs.Slide.{slid};
 use model::{Beta, LossKind, Rule};
 
 // What becomes of an arrival: it is held, rejected, or held at the cost of the packet at a place.
-#[derive(Drop)]
+#[derive(Clone, Copy)]
 pub enum Choice {
     Hold,
     Reject,

@@ -1,4 +1,6 @@
 // What each answer of a call says in 01's numbers: the one place where answers become numbers.
+#![tactic(auto)]
+
 ghost use Rattle.std.specs.Prelude.{◌≡◌};
 ghost use Rattle.model.specs.Numbers.{cause_number};
 ghost use Rattle.model.specs.Calls.{reply_to};

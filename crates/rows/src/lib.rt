@@ -1,6 +1,8 @@
 // The rows of a CSV text under any header: a parser that is a value and takes the text in pieces. Every function takes any parser, any header and a table
 // of any length, and states all that it answers and leaves. A parser's fields are private: outside, one comes from `Parser::new`, and of those the theorem
 // `whole` says that what was read is what the definitions read in the text.
+#![tactic(auto)]
+
 ghost use Rattle.std.specs.Prelude.{◌≡◌, ◌+◌, [], length, get_or};
 ghost use Rattle.field.specs.Fields.{fields_of};
 ghost use Rattle.rows.specs.Table.{written};
@@ -12,7 +14,7 @@ use model::Record;
 use signs::{COMMA, CR, LF};
 
 // What was read: the first bad line, more rows than there are places for, or so many rows.
-#[derive(Drop)]
+#[derive(Clone, Copy)]
 pub enum Rows {
     Malformed(u64),
     TooMany,
@@ -21,7 +23,7 @@ pub enum Rows {
 
 // A text that has been read up to some byte: in which field of its present line, and whether its last byte is a CR that may begin a line's end; the number
 // of that line; and how many rows the lines before it hold, a count that stops at one more than there are places for.
-#[derive(Drop)]
+#[derive(Clone, Copy)]
 pub struct Parser {
     last: usize,
     column: usize,

@@ -1,4 +1,6 @@
 // Every policy and the offline plan by one call, with the policy as a value.
+#![tactic(auto)]
+
 ghost use Rattle.std.specs.Prelude.{◌≡◌};
 ghost use Rattle.model.specs.Lent.{was, lists_before, lists_after};
 ghost use Rattle.model.specs.Answers.{of_run};
@@ -8,7 +10,7 @@ ghost use Rattle.runs.specs.Policy.{call_of, reply_of, too_many};
 use model::{Beta, Cause, Marking, Record, Refusal, RunAnswer};
 
 // The policies and the offline plan, each with its parameters.
-#[derive(Drop)]
+#[derive(Clone, Copy)]
 pub enum Policy {
     Greedy,
     PG(Beta),

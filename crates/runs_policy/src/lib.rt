@@ -1,5 +1,7 @@
 // MF and the offline plan on a trace, each a call that tests its input, runs, and answers the totals of the record that it wrote. They share a run, with the
 // policy as a value.
+#![tactic(auto)]
+
 mod policy;
 mod run;
 

@@ -11,7 +11,7 @@ use model::{Marking, Packet, PacketNumber, Rule, Slot};
 use steps::Window;
 
 // The plan, whose kept packets stand in a list beside; or MF with this room, whose marks do.
-#[derive(Drop)]
+#[derive(Clone, Copy)]
 pub enum Policy {
     Kept,
     Marking(usize, Marking),

@@ -1,4 +1,6 @@
 // Plain greedy and PG on a trace, each a call that tests its input, runs, and answers the totals of the record that it wrote.
+#![tactic(auto)]
+
 mod run;
 
 ghost use Rattle.std.specs.Prelude.{◌≡◌, [], ◌≤◌};

@@ -1,4 +1,6 @@
 // The bytes that the grammar of our texts names, the line's end, and the headers of a trace and of a record.
+#![tactic(auto)]
+
 ghost use Rattle.std.specs.Prelude.{◌≡◌};
 ghost use Rattle.signs.specs.Signs.{trace_header, record_header};
 

@@ -1,4 +1,6 @@
 // What every run on a trace is made of: its queue and the ends of slots. A window that does not lie within its lists is handed back, and nothing is written.
+#![tactic(auto)]
+
 ghost use Rattle.std.specs.Prelude.{◌≡◌, []};
 ghost use Rattle.model.specs.Lent.{lists_after};
 ghost use Rattle.steps.specs.Window.{Oldest};
@@ -13,7 +15,7 @@ mod held;
 
 // The queue of a trace run: the entries from `head` up to `tail` of two lent lists, numbers and values, oldest first. Nothing counts beside it: what is
 // held is what stands there.
-#[derive(Drop)]
+#[derive(Clone, Copy)]
 pub struct Window {
     pub head: usize,
     pub tail: usize,

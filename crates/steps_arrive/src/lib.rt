@@ -1,4 +1,6 @@
 // An arrival, and a packet held, for all input: a window that does not lie within its lists, or has no place free, is handed back, and nothing is written.
+#![tactic(auto)]
+
 ghost use Rattle.std.specs.Prelude.{◌≡◌};
 ghost use Rattle.model.specs.Course.{held_if};
 ghost use Rattle.laws.specs.AtOnce.{at_once};

@@ -1,5 +1,7 @@
 // One run as text, for every policy, and the bench program's answer to what was read, in lent lists. Every public function takes lists of any length, and
 // states all that it answers and leaves.
+#![tactic(auto)]
+
 ghost use Rattle.std.specs.Prelude.{◌≤◌, length};
 ghost use Rattle.model.specs.Limits.{record_limits};
 ghost use Rattle.model.specs.Lent.{was, left, lists_before};

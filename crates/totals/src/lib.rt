@@ -1,5 +1,7 @@
 // The totals of a record, whatever its fates. One that can't be counted, of more packets or other values than a trace has, has none. Nothing is decided
 // on the way through the lists, so a turn costs little.
+#![tactic(auto)]
+
 ghost use Rattle.std.specs.Prelude.{◌≡◌, cond, ◌≤◌, length, eqb};
 ghost use Rattle.model.specs.Limits.{record_limits};
 ghost use Rattle.laws.specs.WellFormed.{sum};

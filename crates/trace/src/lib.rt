@@ -1,4 +1,6 @@
 // The test of a trace: refusals 1 to 6, in each call's order. What is refused, and at which place, stands in crate model.
+#![tactic(auto)]
+
 ghost use Rattle.std.specs.Prelude.{◌≡◌, true, length};
 ghost use Rattle.model.specs.Rules.{clear};
 ghost use Rattle.model.specs.Refusals.{unless as unlessOk, marking_ok, slot_ok, packet_refusal, trace_refusal, plain_refusal, pg_refusal, mf_refusal};
@@ -11,14 +13,14 @@ use checks::{value_ok, values_ok};
 use model::{Beta, Cause, Marking, Record, Refusal, Slot};
 
 // What the test of a trace answers.
-#[derive(Drop)]
+#[derive(Clone, Copy)]
 pub enum Checked {
     Accepted,
     Refused(Refusal),
 }
 
 // Which values a call takes: all that are in range, or of these only lo and hi.
-#[derive(Drop)]
+#[derive(Clone, Copy)]
 enum Values {
     InRange,
     LoOrHi(Marking),

@@ -1,0 +1,20 @@
+-- The invariant: the lowest so far and the lowest of the rest are together the lowest of all. The places left are the measure.
+use Prim.Native.Nat.{min, ◌≤◌, ◌-◌}
+use mathlib.Core.Path.{◌≡◌}
+use native.Mathlib.Omega.{arith}
+use mathlib.Core.Logic.{⊎_elim}
+use lib.ListN.{length, drop}
+use Rattle.queue.specs.Choose.{lowest_of}
+use Rattle.queue.proofs.Search.{lowest_fits, lowest_done, lowest_turn}
+use Rattle.queue.proofs.lowest.Goals as goal
+
+pub loop-i-init : goal.loop-i-init
+loop-i-init c = omega (arith, lowest_fits c.args.values.now)
+
+pub loop-i-preserved : goal.loop-i-preserved
+loop-i-preserved c = let loop = c in
+    let turn = lowest_turn loop.args.values.now loop.loop-i.i (omega arith) in
+    ⊎_elim (λ w. omega arith) (λ w. omega arith) c.if-values-i.branch
+
+pub returns : goal.returns
+returns c = omega (arith, lowest_done c.args.values.now c.loop-i.i (omega arith))
