@@ -9,7 +9,6 @@ ghost use Rattle.model.specs.Answers.{of_audit};
 ghost use Rattle.model.specs.Calls.{audit_call};
 ghost use Rattle.model.specs.Limits.{record_limits};
 ghost use Rattle.model.specs.Rules.{by_wrong, buffer_of};
-ghost use Rattle.model.specs.Lent.{lists_before};
 ghost use Rattle.audit_faults.specs.Faults.{row_of};
 ghost use Rattle.laws.specs.Accepted.{NeverDown, Accepted};
 ghost use Rattle.audit.specs.Rows.{row_at, Names, Reads, Place};
@@ -119,7 +118,7 @@ fn row_at(
     i: usize,
 ) -> Read
     requires { Place slots.now values.now (lists_of fates.now whens.now bys.now) i }
-    ensures { Reads (row_at slots.now values.now (lists_before fates whens bys) i) result }
+    ensures { Reads (row_at slots.now values.now (lists_of fates.now whens.now bys.now) i) result }
 {
     let Named::Fate(fate) = fate_of(fates[i]) else {
         return Read::Outside;
@@ -167,7 +166,7 @@ fn sweep(
     bys: &[u32],
 ) -> Swept
     requires { Accepted value_ok slots.now values.now room (lists_of fates.now whens.now bys.now) }
-    ensures { SweptAs (buffer_of slots.now room) (rows (arrivals slots.now values.now) (lists_before fates whens bys)) result }
+    ensures { SweptAs (buffer_of slots.now room) (rows (arrivals slots.now values.now) (lists_of fates.now whens.now bys.now)) result }
 {
     let mut leaving = [0u32; Record::PACKETS + 1];
     let mut held: u32 = 0;
@@ -204,7 +203,7 @@ pub fn audit(
     whens: &[u32],
     bys: &[u32],
 ) -> AuditAnswer
-    ensures { of_audit result ≡ audit_call slots.now values.now room (lists_before fates whens bys) }
+    ensures { of_audit result ≡ audit_call slots.now values.now room (lists_of fates.now whens.now bys.now) }
 {
     if let Checked::Refused(refusal) = trace::check_plain(slots, values, room, fates, whens, bys) {
         return AuditAnswer::Refused(refusal);

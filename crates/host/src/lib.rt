@@ -4,10 +4,11 @@
 mod live;
 mod said;
 
+ghost use Rattle.model.specs.Record.{lists_of};
 ghost use Rattle.model.specs.Calls.{greedy_call, pg_call, mf_call, plan_call, audit_call};
 ghost use Rattle.model.specs.Port.{make_call};
 ghost use Rattle.std.specs.Prelude.{◌≡◌};
-ghost use Rattle.model.specs.Lent.{was, left, lists_before};
+ghost use Rattle.model.specs.Lent.{was, left};
 ghost use Rattle.host.specs.Said.{beta_of, marking_of, SaysOf, SaidOfAudit};
 ghost use Rattle.host.specs.Live.{heard_of};
 
@@ -31,7 +32,7 @@ pub extern "C" fn host_greedy(
     bys: &mut [u32],
     totals: &mut [u32],
 ) -> u64
-    ensures { SaysOf fates whens bys totals result (greedy_call (was slots) (was values) room) }
+    ensures { SaysOf fates whens bys totals result (greedy_call slots.now values.now room) }
 {
     say_run(greedy(slots, values, room, fates, whens, bys), totals)
 }
@@ -49,7 +50,7 @@ pub extern "C" fn host_pg(
     bys: &mut [u32],
     totals: &mut [u32],
 ) -> u64
-    ensures { SaysOf fates whens bys totals result (pg_call (was slots) (was values) room (beta_of num den)) }
+    ensures { SaysOf fates whens bys totals result (pg_call slots.now values.now room (beta_of num den)) }
 {
     say_run(
         pg(slots, values, room, Beta { num, den }, fates, whens, bys),
@@ -71,7 +72,7 @@ pub extern "C" fn host_mf(
     bys: &mut [u32],
     totals: &mut [u32],
 ) -> u64
-    ensures { SaysOf fates whens bys totals result (mf_call (was slots) (was values) room (marking_of lo hi r)) }
+    ensures { SaysOf fates whens bys totals result (mf_call slots.now values.now room (marking_of lo hi r)) }
 {
     say_run(
         mf(
@@ -98,7 +99,7 @@ pub extern "C" fn host_plan(
     bys: &mut [u32],
     totals: &mut [u32],
 ) -> u64
-    ensures { SaysOf fates whens bys totals result (plan_call (was slots) (was values) room) }
+    ensures { SaysOf fates whens bys totals result (plan_call slots.now values.now room) }
 {
     say_run(plan(slots, values, room, fates, whens, bys), totals)
 }
@@ -114,7 +115,7 @@ pub extern "C" fn host_audit(
     bys: &[u32],
     totals: &mut [u32],
 ) -> u64
-    ensures { SaidOfAudit (audit_call (was slots) (was values) room (lists_before fates whens bys)) (was totals) result (left totals) }
+    ensures { SaidOfAudit (audit_call slots.now values.now room (lists_of fates.now whens.now bys.now)) (was totals) result (left totals) }
 {
     say_audit(audit(slots, values, room, fates, whens, bys), totals)
 }

@@ -1,8 +1,8 @@
 // `audit`: the audit of a record, and what it says as text in a lent list.
+ghost use Rattle.model.specs.Record.{lists_of};
 ghost use Rattle.std.specs.Prelude.{◌≡◌, ◌≤◌, length};
 ghost use Rattle.model.specs.Limits.{record_limits};
 ghost use Rattle.model.specs.Calls.{audit_call};
-ghost use Rattle.model.specs.Lent.{lists_before};
 ghost use Rattle.output.specs.Writing.{WroteIn};
 ghost use Rattle.lab.specs.Audit.{misnumbered_from, verdict_text, audit_text};
 
@@ -39,7 +39,7 @@ fn say(
     out: &mut [u8],
 ) -> usize
     requires { 209 ≤ length out.old }
-    ensures { WroteIn out result 0 (verdict_text (audit_call slots.now values.now room (lists_before fates whens bys))) }
+    ensures { WroteIn out result 0 (verdict_text (audit_call slots.now values.now room (lists_of fates.now whens.now bys.now))) }
 {
     let reply = of_audit(audit::audit(slots, values, room, fates, whens, bys));
     if reply.number != 0 {
@@ -63,7 +63,7 @@ pub fn check(
 ) -> usize
     requires numbers_len_bound { length numbers.now ≤ record_limits.packets }
     requires in_bounds { 209 ≤ length out.old }
-    ensures { WroteIn out result 0 (audit_text room numbers.now slots.now values.now (lists_before fates whens bys)) }
+    ensures { WroteIn out result 0 (audit_text room numbers.now slots.now values.now (lists_of fates.now whens.now bys.now)) }
 {
     let line = misnumbered(numbers);
     if line != 0 {

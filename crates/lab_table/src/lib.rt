@@ -47,7 +47,7 @@ pub fn table(
     dens: &[u32],
     out: &mut [u8],
 ) -> usize
-    ensures { WroteIn out result 0 (table_spoken room (was nums) (was dens) (was slots) (was values) (was out)) }
+    ensures { WroteIn out result 0 (table_spoken room nums.now dens.now slots.now values.now (was out)) }
 {
     if out.len() < BYTES {
         return 0;

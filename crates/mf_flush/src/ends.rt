@@ -1,5 +1,5 @@
 // The ends of slots under MF, on a window that lies within its lists.
-ghost use Rattle.model.specs.Lent.{was, lists_after};
+ghost use Rattle.model.specs.Lent.{lists_after};
 ghost use Rattle.steps.specs.Window.{Within};
 ghost use Rattle.steps.specs.Lent.{lent_before, moved, moved_from};
 ghost use Rattle.mf_flush.specs.Flush.{mf_from, mf_to, Sends, EndedIn, EndsIn};
@@ -56,7 +56,7 @@ fn end_slot(
     slot: Slot,
 ) -> Window
     requires { Within w numbers.old values.old }
-    ensures { EndedIn room marking (was slots) slot (mf_from w numbers values marks fates whens bys) (mf_to result numbers values marks fates whens bys) }
+    ensures { EndedIn room marking slots.now slot (mf_from w numbers values marks fates whens bys) (mf_to result numbers values marks fates whens bys) }
 {
     mark(numbers, values, slots, marks, w, room, marking, slot);
     let m = head_mark(numbers, values, marks, w);
@@ -80,7 +80,7 @@ pub fn end_slots(
     until: Slot,
 ) -> Window
     requires { Within w numbers.old values.old }
-    ensures { EndsIn room marking (was slots) from until (mf_from w numbers values marks fates whens bys) (mf_to result numbers values marks fates whens bys) }
+    ensures { EndsIn room marking slots.now from until (mf_from w numbers values marks fates whens bys) (mf_to result numbers values marks fates whens bys) }
 {
     let mut head = w.head;
     let mut tail = w.tail;

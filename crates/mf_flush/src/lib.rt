@@ -1,7 +1,6 @@
 // The ends of slots under MF: the slot's hi packets mark, the head's mark flushes, and the head is sent.
 #![tactic(auto)]
 
-ghost use Rattle.model.specs.Lent.{was};
 ghost use Rattle.mf_flush.specs.Flush.{MovesMF, ending_in};
 
 use model::{Marking, Slot};
@@ -25,7 +24,7 @@ pub fn end_slots(
     from: Slot,
     until: Slot,
 ) -> Window
-    ensures { MovesMF w result numbers values marks fates whens bys (ending_in room marking (was slots) from until) }
+    ensures { MovesMF w result numbers values marks fates whens bys (ending_in room marking slots.now from until) }
 {
     if !lies_within(numbers, values, w) {
         return w;

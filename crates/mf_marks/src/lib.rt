@@ -3,7 +3,6 @@
 
 ghost use Rattle.std.specs.Prelude.{◌≡◌};
 ghost use Rattle.model.specs.Policies.MF.{mark_of, marks_after};
-ghost use Rattle.model.specs.Lent.{was};
 ghost use Rattle.mf_marks.specs.Mark.{Marks};
 
 use entry::number_of;
@@ -30,7 +29,7 @@ pub fn mark(
     marking: Marking,
     slot: Slot,
 )
-    ensures { Marks w numbers values marks (marks_after room marking (was slots) slot) }
+    ensures { Marks w numbers values marks (marks_after room marking slots.now slot) }
 {
     if !lies_within(numbers, values, w) {
         return;

@@ -43,7 +43,7 @@ fn mark_down(
     by: PacketNumber,
 )
     requires { Within (record { head = head; tail = head + n }) numbers.now values.now }
-    ensures { left marks ≡ mark_down lo r by (older_than (was numbers) (was values) head n) (was marks) }
+    ensures { left marks ≡ mark_down lo r by (older_than numbers.now values.now head n) (was marks) }
 {
     let mut i = n;
     let mut left = r;
@@ -118,7 +118,7 @@ pub fn mark(
     slot: Slot,
 )
     requires { Within w numbers.now values.now }
-    ensures { left marks ≡ marks_after room marking (was slots) slot (beside (window_of w (was numbers) (was values)) (was marks)) }
+    ensures { left marks ≡ marks_after room marking slots.now slot (beside (window_of w numbers.now values.now) (was marks)) }
 {
     let head = w.head;
     let n = positions(w, room);

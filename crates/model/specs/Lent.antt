@@ -1,12 +1,12 @@
 -- Lists that are lent to a call, in its promise: as they were, and as it leaves them.
 use Rattle.std.specs.Prelude.{ℕ, List}
-use Rattle.std.specs.Borrow.{Bor}
+use Rattle.std.specs.Borrow.{MutBor}
 use denote.Triple.Both.{Both}
 use Rattle.model.specs.Record.{Lists, lists_of}
 
 -- a lent list
 abbrev pub LentList : Type 0
-LentList = Both (Bor (List ℕ)) (Bor (List ℕ))
+LentList = Both (MutBor (List ℕ)) (MutBor (List ℕ))
 
 -- a list before a call, and after it
 abbrev pub was : LentList → List ℕ

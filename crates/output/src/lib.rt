@@ -2,8 +2,8 @@
 // answers the place behind what it wrote. Where the list has fewer places than the longest text of its kind takes, it writes nothing and answers `at`.
 #![tactic(auto)]
 
+ghost use Rattle.model.specs.Record.{lists_of};
 ghost use Rattle.std.specs.Prelude.{◌+◌, ◌*◌, length};
-ghost use Rattle.model.specs.Lent.{lists_before};
 ghost use Rattle.output.specs.Output.{decimal, line_with, refusal_text};
 ghost use Rattle.output.specs.Writing.{PutIn, rows_text};
 
@@ -92,7 +92,7 @@ pub fn put_rows(
     whens: &[u32],
     bys: &[u32],
 ) -> usize
-    ensures { PutIn out result (128 * length slots.now) at (rows_text slots.now values.now (lists_before fates whens bys)) }
+    ensures { PutIn out result (128 * length slots.now) at (rows_text slots.now values.now (lists_of fates.now whens.now bys.now)) }
 {
     if values.len() != slots.len() {
         return at;

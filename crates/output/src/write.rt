@@ -1,8 +1,7 @@
 // Writing into a list that is long enough: the caller has seen that it is.
 ghost use Rattle.std.specs.Prelude.{◌+◌, ◌*◌, ◌≤◌, length};
 ghost use Rattle.model.specs.Packets.{arrivals};
-ghost use Rattle.model.specs.Record.{rows};
-ghost use Rattle.model.specs.Lent.{lists_before};
+ghost use Rattle.model.specs.Record.{rows, lists_of};
 ghost use Rattle.output.specs.Output.{decimal, line_with, row_lines};
 ghost use Rattle.output.specs.Writing.{WroteIn, SameLengths};
 
@@ -73,7 +72,7 @@ pub fn write_rows(
 ) -> usize
     requires same_lengths { SameLengths slots.now values.now fates.now whens.now bys.now }
     requires slots_in_bounds { at + 128 * length slots.now ≤ length out.old }
-    ensures { WroteIn out result at (row_lines (rows (arrivals slots.now values.now) (lists_before fates whens bys))) }
+    ensures { WroteIn out result at (row_lines (rows (arrivals slots.now values.now) (lists_of fates.now whens.now bys.now))) }
 {
     let mut end = at;
     let mut i = 0;

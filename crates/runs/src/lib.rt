@@ -2,7 +2,7 @@
 #![tactic(auto)]
 
 ghost use Rattle.std.specs.Prelude.{◌≡◌};
-ghost use Rattle.model.specs.Lent.{was, lists_before, lists_after};
+ghost use Rattle.model.specs.Lent.{lists_before, lists_after};
 ghost use Rattle.model.specs.Answers.{of_run};
 ghost use Rattle.steps.specs.Calls.{outcome};
 ghost use Rattle.runs.specs.Policy.{call_of, reply_of, too_many};
@@ -28,7 +28,7 @@ pub fn call(
     whens: &mut [u32],
     bys: &mut [u32],
 ) -> RunAnswer
-    ensures { outcome result (lists_after fates whens bys) ≡ call_of policy room (was slots) (was values) (lists_before fates whens bys) }
+    ensures { outcome result (lists_after fates whens bys) ≡ call_of policy room slots.now values.now (lists_before fates whens bys) }
 {
     match policy {
         Policy::Greedy => runs_rule::greedy(slots, values, room, fates, whens, bys),
@@ -56,7 +56,7 @@ pub fn too_many(packets: usize, values: usize) -> RunAnswer
 
 // What a policy's run on a trace answers; the record is dropped.
 pub fn reply(policy: Policy, room: usize, slots: &[u32], values: &[u32]) -> RunAnswer
-    ensures { of_run result ≡ reply_of policy room (was slots) (was values) }
+    ensures { of_run result ≡ reply_of policy room slots.now values.now }
 {
     let n = slots.len();
     if Record::PACKETS < n {

@@ -34,7 +34,7 @@ fn finish(
     bys: &mut [u32],
 ) -> RunAnswer
     requires { Ready (policy_by policy slots.now kept.now) (beside [] marks.old) slots.now values.now (lists_of fates.old whens.old bys.old) }
-    ensures { outcome result (lists_after fates whens bys) ≡ ran (was slots) (was values) (course_by policy (was kept) (was marks) (was slots) (was values)) }
+    ensures { outcome result (lists_after fates whens bys) ≡ ran slots.now values.now (course_by policy kept.now (was marks) slots.now values.now) }
 {
     let most_held = run(slots, values, policy, kept, marks, fates, whens, bys);
     RunAnswer::Ran(totals(values, fates, most_held))
@@ -51,7 +51,7 @@ fn finish_mf(
     bys: &mut [u32],
 ) -> RunAnswer
     requires { Ready (mf_policy room marking slots.now) (unmarked (length slots.now)) slots.now values.now (lists_of fates.old whens.old bys.old) }
-    ensures { outcome result (lists_after fates whens bys) ≡ ran (was slots) (was values) (mf_run room marking (was slots) (was values)) }
+    ensures { outcome result (lists_after fates whens bys) ≡ ran slots.now values.now (mf_run room marking slots.now values.now) }
 {
     let mut marks = [0u32; Record::PACKETS];
     let n = slots.len();
@@ -78,7 +78,7 @@ pub fn mf(
     whens: &mut [u32],
     bys: &mut [u32],
 ) -> RunAnswer
-    ensures { outcome result (lists_after fates whens bys) ≡ mf_call (was slots) (was values) room marking (lists_before fates whens bys) }
+    ensures { outcome result (lists_after fates whens bys) ≡ mf_call slots.now values.now room marking (lists_before fates whens bys) }
 {
     match trace::check_mf(slots, values, room, marking, fates, whens, bys) {
         Checked::Refused(refusal) => RunAnswer::Refused(refusal),
@@ -88,7 +88,7 @@ pub fn mf(
 
 // How many entries the list of kept packets has: one for each packet, as far as a trace can be accepted.
 fn entries(slots: &[u32]) -> usize
-    ensures { result ≡ min (length (was slots)) record_limits.packets }
+    ensures { result ≡ min (length slots.now) record_limits.packets }
 {
     let n = slots.len();
     if n < Record::PACKETS {
@@ -106,7 +106,7 @@ pub fn plan(
     whens: &mut [u32],
     bys: &mut [u32],
 ) -> RunAnswer
-    ensures { outcome result (lists_after fates whens bys) ≡ plan_call (was slots) (was values) room (lists_before fates whens bys) }
+    ensures { outcome result (lists_after fates whens bys) ≡ plan_call slots.now values.now room (lists_before fates whens bys) }
 {
     let mut kept = [0u8; Record::PACKETS];
     let n = entries(slots);

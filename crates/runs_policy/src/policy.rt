@@ -1,7 +1,6 @@
 // The policies whose queue is a window, each as a value, and what a slot brings under each.
 ghost use Rattle.std.specs.Prelude.{◌≡◌, ◌-◌, ◌<◌, eqb, length};
 ghost use Rattle.model.specs.Policies.Plan.{kept_of};
-ghost use Rattle.model.specs.Lent.{was};
 ghost use Rattle.steps.specs.Window.{Within};
 ghost use Rattle.steps.specs.Step.{arrival};
 ghost use Rattle.runs_policy.specs.Policy.{ends_by, turn_by, DoesIn};
@@ -19,7 +18,7 @@ pub enum Policy {
 
 // Whether the plan keeps a packet.
 fn is_kept(kept: &[u8], number: PacketNumber) -> bool
-    ensures { result ≡ eqb (kept_of (was kept) number) 1 }
+    ensures { result ≡ eqb (kept_of kept.now number) 1 }
 {
     let place = place_of(number);
     if kept.len() <= place {
@@ -43,7 +42,7 @@ pub fn end_slots(
     until: Slot,
 ) -> Window
     requires { Within w numbers.old values.old }
-    ensures { DoesIn w result numbers values marks fates whens bys (ends_by policy (was slots) from until) }
+    ensures { DoesIn w result numbers values marks fates whens bys (ends_by policy slots.now from until) }
 {
     match policy {
         Policy::Marking(room, marking) => mf_flush::end_slots(
@@ -72,7 +71,7 @@ pub fn turn(
 ) -> Window
     requires within { Within w numbers.old values.old }
     requires head_in_bounds { w.tail - w.head < length values.old }
-    ensures { DoesIn w result numbers values marks fates whens bys (turn_by policy (was slots) (was kept) last (arrival slot p)) }
+    ensures { DoesIn w result numbers values marks fates whens bys (turn_by policy slots.now kept.now last (arrival slot p)) }
 {
     match policy {
         Policy::Marking(room, marking) => {

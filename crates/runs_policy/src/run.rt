@@ -21,7 +21,7 @@ pub fn run(
     bys: &mut [u32],
 ) -> u32
     requires { Runnable (policy_by policy slots.now kept.now) (beside [] marks.old) slots.now values.now }
-    ensures { RanBy policy (was kept) (was marks) (was slots) (was values) (lists_before fates whens bys) (lists_after fates whens bys) result }
+    ensures { RanBy policy kept.now (was marks) slots.now values.now (lists_before fates whens bys) (lists_after fates whens bys) result }
 {
     let mut numbers = [0u32; PLACES];
     let mut held_values = [0u32; PLACES];

@@ -5,7 +5,7 @@ mod run;
 
 ghost use Rattle.std.specs.Prelude.{◌≡◌, [], ◌≤◌};
 ghost use Rattle.model.specs.Calls.{ran, greedy_call, pg_call};
-ghost use Rattle.model.specs.Lent.{was, lists_before, lists_after};
+ghost use Rattle.model.specs.Lent.{lists_before, lists_after};
 ghost use Rattle.model.specs.Packets.{arrivals};
 ghost use Rattle.model.specs.Record.{lists_of};
 ghost use Rattle.model.specs.Course.{by_rule, run_by};
@@ -30,7 +30,7 @@ fn finish(
 ) -> RunAnswer
     requires ready { Ready (by_rule (at_once room rule)) [] slots.now values.now (lists_of fates.old whens.old bys.old) }
     requires le_room { 1 ≤ room }
-    ensures { outcome result (lists_after fates whens bys) ≡ ran (was slots) (was values) (run_by (rule_of room rule) (arrivals (was slots) (was values))) }
+    ensures { outcome result (lists_after fates whens bys) ≡ ran slots.now values.now (run_by (rule_of room rule) (arrivals slots.now values.now)) }
 {
     let most = run(slots, values, room, rule, fates, whens, bys);
     RunAnswer::Ran(totals(values, fates, most))
@@ -45,7 +45,7 @@ pub fn greedy(
     whens: &mut [u32],
     bys: &mut [u32],
 ) -> RunAnswer
-    ensures { outcome result (lists_after fates whens bys) ≡ greedy_call (was slots) (was values) room (lists_before fates whens bys) }
+    ensures { outcome result (lists_after fates whens bys) ≡ greedy_call slots.now values.now room (lists_before fates whens bys) }
 {
     match trace::check_plain(slots, values, room, fates, whens, bys) {
         Checked::Refused(refusal) => RunAnswer::Refused(refusal),
@@ -63,7 +63,7 @@ pub fn pg(
     whens: &mut [u32],
     bys: &mut [u32],
 ) -> RunAnswer
-    ensures { outcome result (lists_after fates whens bys) ≡ pg_call (was slots) (was values) room beta (lists_before fates whens bys) }
+    ensures { outcome result (lists_after fates whens bys) ≡ pg_call slots.now values.now room beta (lists_before fates whens bys) }
 {
     match trace::check_pg(slots, values, room, beta, fates, whens, bys) {
         Checked::Refused(refusal) => RunAnswer::Refused(refusal),

@@ -4,7 +4,7 @@ ghost use Rattle.model.specs.Course.{by_rule};
 ghost use Rattle.laws.specs.AtOnce.{at_once};
 ghost use Rattle.steps.specs.Window.{Within};
 ghost use Rattle.steps.specs.Step.{arrival, turning};
-ghost use Rattle.model.specs.Lent.{was, lists_before, lists_after};
+ghost use Rattle.model.specs.Lent.{lists_before, lists_after};
 ghost use Rattle.steps.specs.Run.{Runnable, Ran};
 ghost use Rattle.runs_rule.specs.Turn.{DoesQueueIn};
 
@@ -52,7 +52,7 @@ pub fn run(
 ) -> u32
     requires runnable { Runnable (by_rule (at_once room rule)) [] slots.now values.now }
     requires le_room { 1 ≤ room }
-    ensures { Ran (by_rule (at_once room rule)) [] (was slots) (was values) (lists_before fates whens bys) (lists_after fates whens bys) result }
+    ensures { Ran (by_rule (at_once room rule)) [] slots.now values.now (lists_before fates whens bys) (lists_after fates whens bys) result }
 {
     let mut numbers = [0u32; PLACES];
     let mut held_values = [0u32; PLACES];

@@ -40,7 +40,7 @@ fn say(
 ) -> usize
     requires slots_len_bound { length slots.now ≤ record_limits.packets }
     requires output_limit_in_bounds { output_limit ≤ length out.old }
-    ensures { WroteIn out result 0 (called_text policy room (was slots) (was values) (lists_before fates whens bys)) }
+    ensures { WroteIn out result 0 (called_text policy room slots.now values.now (lists_before fates whens bys)) }
 {
     let reply = of_run(call(policy, room, slots, values, fates, whens, bys));
     if reply.number != 0 {
@@ -53,7 +53,7 @@ fn say(
 
 // What a policy says of a trace. Nothing is written where the list is too short for the longest answer.
 pub fn run(policy: Policy, room: usize, slots: &[u32], values: &[u32], out: &mut [u8]) -> usize
-    ensures { WroteIn out result 0 (run_spoken policy room (was slots) (was values) (was out)) }
+    ensures { WroteIn out result 0 (run_spoken policy room slots.now values.now (was out)) }
 {
     if out.len() < OUTPUT {
         return 0;
@@ -80,7 +80,7 @@ pub fn run(policy: Policy, room: usize, slots: &[u32], values: &[u32], out: &mut
 
 // What the bench program says of what was read, and how many bytes that is. Nothing is written where a list is not as long as it has to be.
 pub fn answer(read: Rows, table: &[u32], out: &mut [u8]) -> usize
-    ensures { Answered read (was table) (was out) result (left out) }
+    ensures { Answered read table.now (was out) result (left out) }
 {
     if table.len() != TABLE {
         return 0;

@@ -1,10 +1,10 @@
 // The test of a trace: refusals 1 to 6, in each call's order. What is refused, and at which place, stands in crate model.
 #![tactic(auto)]
 
+ghost use Rattle.model.specs.Record.{lists_of};
 ghost use Rattle.std.specs.Prelude.{◌≡◌, true, length};
 ghost use Rattle.model.specs.Rules.{clear};
 ghost use Rattle.model.specs.Refusals.{unless as unlessOk, marking_ok, slot_ok, packet_refusal, trace_refusal, plain_refusal, pg_refusal, mf_refusal};
-ghost use Rattle.model.specs.Lent.{lists_before};
 ghost use Rattle.trace.specs.Checked.{verdict_of, ok_of, lengths_equal, Lengths};
 ghost use Rattle.trace.specs.Fitting.{SlotsFit};
 
@@ -146,7 +146,7 @@ fn packets_or_none(slots: &[u32], values: &[u32], taken: Values) -> Checked
 }
 
 fn lengths_equal(slots: &[u32], values: &[u32], fates: &[u32], whens: &[u32], bys: &[u32]) -> bool
-    ensures { result ≡ lengths_equal slots.now values.now (lists_before fates whens bys) }
+    ensures { result ≡ lengths_equal slots.now values.now (lists_of fates.now whens.now bys.now) }
 {
     let n = slots.len();
     if values.len() != n {
@@ -190,7 +190,7 @@ fn in_order(
     own: Checked,
     taken: Values,
 ) -> Checked
-    ensures { verdict_of result ≡ trace_refusal (verdict_of own) (ok_of taken) slots.now values.now room (lists_before fates whens bys) }
+    ensures { verdict_of result ≡ trace_refusal (verdict_of own) (ok_of taken) slots.now values.now room (lists_of fates.now whens.now bys.now) }
 {
     if !lengths_equal(slots, values, fates, whens, bys) {
         return refused(Cause::Lengths);
@@ -216,7 +216,7 @@ pub fn check_plain(
     whens: &[u32],
     bys: &[u32],
 ) -> Checked
-    ensures { verdict_of result ≡ plain_refusal slots.now values.now room (lists_before fates whens bys) }
+    ensures { verdict_of result ≡ plain_refusal slots.now values.now room (lists_of fates.now whens.now bys.now) }
 {
     in_order(
         slots,
@@ -239,7 +239,7 @@ pub fn check_pg(
     whens: &[u32],
     bys: &[u32],
 ) -> Checked
-    ensures { verdict_of result ≡ pg_refusal beta slots.now values.now room (lists_before fates whens bys) }
+    ensures { verdict_of result ≡ pg_refusal beta slots.now values.now room (lists_of fates.now whens.now bys.now) }
 {
     in_order(
         slots,
@@ -262,7 +262,7 @@ pub fn check_mf(
     whens: &[u32],
     bys: &[u32],
 ) -> Checked
-    ensures { verdict_of result ≡ mf_refusal marking slots.now values.now room (lists_before fates whens bys) }
+    ensures { verdict_of result ≡ mf_refusal marking slots.now values.now room (lists_of fates.now whens.now bys.now) }
 {
     in_order(
         slots,
