@@ -1,6 +1,6 @@
 // An argument as a word: a command, a policy, a number or a beta.
 ghost use Rattle.std.specs.Prelude.{◌≡◌};
-ghost use Rattle.field.specs.Fields.{same as sameBytes};
+ghost use Rattle.field.specs.Fields.{same as same_bytes};
 ghost use Rattle.lab_jobs.specs.Words.{name_in, number_in, slash_at, beta_in, word_of};
 
 use signs::{NINE, ZERO};
@@ -45,7 +45,7 @@ pub struct Word {
 
 // Whether two lists of bytes are the same.
 pub fn same(a: &[u8], b: &[u8]) -> bool
-    ensures { result ≡ sameBytes a.now b.now }
+    ensures { result ≡ same_bytes a.now b.now }
 {
     if a.len() != b.len() {
         return false;

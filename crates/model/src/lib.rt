@@ -6,7 +6,7 @@ ghost use Rattle.model.specs.Limits.{record_limits};
 ghost use Rattle.model.specs.Numbers.{fate_number, cause_number, fault_number};
 ghost use Rattle.model.specs.Record.{loss_fate};
 ghost use Rattle.model.specs.Totals.{no_totals};
-ghost use Rattle.model.specs.Packets.{nobody as noPacket};
+ghost use Rattle.model.specs.Packets.{nobody as no_packet};
 
 // The number of a packet, from 1; 0 where there is none. The index of document 000.
 #[derive(Clone, Copy)]
@@ -26,7 +26,7 @@ pub struct Packet {
 impl Packet {
     // No packet.
     pub fn nobody() -> Packet
-        ensures { result ≡ noPacket }
+        ensures { result ≡ no_packet }
     {
         Packet {
             number: PacketNumber(0),

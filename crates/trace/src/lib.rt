@@ -4,7 +4,7 @@
 ghost use Rattle.model.specs.Record.{lists_of};
 ghost use Rattle.std.specs.Prelude.{◌≡◌, true, length};
 ghost use Rattle.model.specs.Rules.{clear};
-ghost use Rattle.model.specs.Refusals.{unless as unlessOk, marking_ok, slot_ok, packet_refusal, trace_refusal, plain_refusal, pg_refusal, mf_refusal};
+ghost use Rattle.model.specs.Refusals.{unless as unless_ok, marking_ok, slot_ok, packet_refusal, trace_refusal, plain_refusal, pg_refusal, mf_refusal};
 ghost use Rattle.trace.specs.Checked.{verdict_of, ok_of, lengths_equal, Lengths};
 ghost use Rattle.trace.specs.Fitting.{SlotsFit};
 
@@ -170,7 +170,7 @@ fn refused(cause: Cause) -> Checked
 
 // A call's own test of a parameter.
 fn unless(ok: bool, cause: Cause) -> Checked
-    ensures { verdict_of result ≡ unlessOk ok cause }
+    ensures { verdict_of result ≡ unless_ok ok cause }
 {
     if ok {
         Checked::Accepted
