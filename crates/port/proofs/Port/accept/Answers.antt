@@ -19,8 +19,7 @@ use Rattle.port.proofs.Calls.{chosen}
 use Rattle.port.proofs.Choices.{Allowed, now_allowed, by_choice, rest_placed, rest_holds}
 use borrow.Author.Rules.{rules}
 use Rattle.queue.proofs.Told.{told}
-use Rattle.port.proofs.Port.accept.Statement.{statement}
-use Rattle.port.proofs.Port.accept.Tie as tie
+use Rattle.port.proofs.Port.accept.Goals as goal
 
 placed : (c : tie.Start) → (c.args.self.held ≤ port_limits.room) × Placed (state_of c.args.self)
 placed c = sound_placed (state_of c.args.self) c.requires.0 (values_whole c.args.self c.well-formed.0) (numbers_whole c.args.self c.well-formed.0)
@@ -46,88 +45,49 @@ answered c choice e =
     by_choice (state_of start.args.self) (values_whole start.args.self start.well-formed.0) (numbers_whole start.args.self start.well-formed.0) start.args.value choice
     (sym (told _ _ c.decide.ensures) ∙ e) start.requires.0 start.requires.1.0 start.requires.1.1
 
-add-given : tie.Need-overflow-add-given
-add-given c = search rules
+pub slice_bounds-values-end : goal.slice_bounds-values-end
+slice_bounds-values-end c = omega (arith, (placed c).0, values_whole c.args.self c.well-formed.0)
 
-array-share-prefix-values : tie.Need-array-share-prefix-values
-array-share-prefix-values c = omega (arith, (placed c.before.before.before.before).0, values_whole c.before.before.before.before.args.self c.before.before.before.before.well-formed.0)
+pub slice_bounds-decide-end : goal.slice_bounds-decide-end
+slice_bounds-decide-end c = simp length-take (omega (arith, (placed c).0, values_whole c.args.self c.well-formed.0))
 
-slice-aggregate-decide : tie.Need-slice-aggregate-decide
-slice-aggregate-decide c = simp length-take (omega (arith, (placed c.before.before.before.before.before).0, values_whole c.before.before.before.before.before.args.self c.before.before.before.before.before.well-formed.0))
-
-decide-requires : tie.Need-decide-requires
-decide-requires c κs = search rules
-
-enum_told : tie.Need-enum-told
-enum_told c = search rules
-
-hold-requires : tie.Need-hold-requires
-hold-requires c κs =
-    let start = c.before.before.before.before.before.before.before.before in
+pub hold-requires : goal.hold-requires
+hold-requires c = let start = c in
     let port = state_of start.args.self in
-    let free = allowed c.before.before Hold c.enum_told.given.1 in
-    ((placed start).1, omega (arith, free, room_fits port.room (sound_parts port start.requires.0).room_is_ok))
+    let free = allowed c Hold c.in-Hold.is in
+    record { within = (placed start).1; head_in_bounds = omega (arith, free, room_fits port.room (sound_parts port start.requires.self_value).room_is_ok) }
 
-enum-told-2 : tie.Need-enum-told-2
-enum-told-2 c = search rules
+pub take-taken-requires : goal.take-taken-requires
+take-taken-requires c = let start = c in
+    ((placed start).1, ((placed start).0, allowed c _ c.in-Lose.is))
 
-enum-known-place : tie.Need-enum-known-place
-enum-known-place c = search rules
+pub hold-requires-in-Lose : goal.hold-requires-in-Lose
+hold-requires-in-Lose c = let start = c in
+    let told = c.place-1.given in
+    let taken = c.take-taken in
+    rest_placed (state_of start.args.self) (placed start).1 (placed start).0 c.in-Lose.place (allowed c _ c.in-Lose.is) taken.result taken.ensures
 
-take-requires : tie.Need-take-requires
-take-requires c κs =
-    let start = c.before.before.before.before.before.before.before.before.before in
-    ((placed start).1, ((placed start).0, allowed c.before.before.before _ c.before.place.given.1))
-
-hold-requires-2 : tie.Need-hold-requires-2
-hold-requires-2 c κs =
-    let start = c.before.before.before.before.before.before.before.before.before.before.before.before in
-    let told = c.before.before.before.before.place.given in
-    let taken = c.before.before.take in
-    rest_placed (state_of start.args.self) (placed start).1 (placed start).0 told.0.0 (allowed c.before.before.before.before.before.before _ told.1) taken.result taken.ensures
-
-returns : tie.Need-returns
-returns c =
-    let port = state_of c.before.before.before.before.before.before.before.before.before.args.self in
+pub returns-in-Hold : goal.returns-in-Hold
+returns-in-Hold c = let port = state_of c.args.self in
     ap (λ (after : PortState). record { reply = of_arrival (Held (record { 0 = port.last.0 + 1 })); port = after }) c.hold.ensures
-    ∙ answered c.before.before.before Hold c.before.enum_told.given.1
+    ∙ answered c Hold c.in-Hold.is
 
-returns-2 : tie.Need-returns-2
-returns-2 c =
-    let start = c.before.before.before.before.before.before.before.before in
+pub returns-in-Reject : goal.returns-in-Reject
+returns-in-Reject c = let start = c in
     let port = state_of start.args.self in
     let number : PacketNumber = record { 0 = port.last.0 + 1 } in
     ap (λ (after : PortState). record { reply = of_arrival (Rejected number); port = after }) (holds_same port (placed start).1 number)
-    ∙ answered c.before.before Reject c.enum-told2.given.1
+    ∙ answered c Reject c.in-Reject.is
 
-returns-3 : tie.Need-returns-3
-returns-3 c =
-    let start = c.before.before.before.before.before.before.before.before.before.before.before.before.before in
+pub returns-in-Lose : goal.returns-in-Lose
+returns-in-Lose c = let start = c in
     let port = state_of start.args.self in
-    let told = c.before.before.before.before.before.place.given in
-    let taken = c.before.before.before.take in
+    let told = c.place-1.given in
+    let taken = c.take-taken in
     let number : PacketNumber = record { 0 = port.last.0 + 1 } in
     let p : Packet = record { number = number; value = start.args.value } in
-    let inside = allowed c.before.before.before.before.before.before.before _ told.1 in
-    ap₂ (λ (lost : Packet) (after : PortState). record { reply = of_arrival (HeldLosing number (record { packet = lost; kind = told.0.1.0 })); port = after })
+    let inside = allowed c _ c.in-Lose.is in
+    ap₂ (λ (lost : Packet) (after : PortState). record { reply = of_arrival (HeldLosing number (record { packet = lost; kind = c.in-Lose.kind })); port = after })
     taken.ensures.packet
-    (rest_holds port (placed start).1 (placed start).0 told.0.0 inside taken.result taken.ensures p (state_of c.hold2.result) c.hold2.ensures)
-    ∙ answered c.before.before.before.before.before.before.before _ told.1
-
-pub accept-spec : {M : Type 1} → statement M
-accept-spec =
-    tie.close
-    (tie.spec
-    add-given
-    array-share-prefix-values
-    slice-aggregate-decide
-    decide-requires
-    enum_told
-    hold-requires
-    enum-told-2
-    enum-known-place
-    take-requires
-    hold-requires-2
-    returns
-    returns-2
-    returns-3)
+    (rest_holds port (placed start).1 (placed start).0 c.in-Lose.place inside taken.result taken.ensures p (state_of c.hold-in-Lose.result) c.hold-in-Lose.ensures)
+    ∙ answered c _ c.in-Lose.is

@@ -1,0 +1,15 @@
+-- The window is empty or its first packet is the oldest.
+use mathlib.Core.Path.{refl}
+use native.Mathlib.Omega.{arith}
+use Rattle.steps.proofs.Windows.{window_cons, window_none}
+use borrow.Author.Rules.{rules}
+use Rattle.steps.proofs.held.oldest.Goals as goal
+
+pub returns-then-head-tail : goal.returns-then-head-tail
+returns-then-head-tail c = let start = c in
+    let a = start.args in
+    rw (window_cons a.head a.tail a.numbers.now a.values.now start.requires (omega arith)) refl
+
+pub returns-else-head-tail : goal.returns-else-head-tail
+returns-else-head-tail c = let a = c.args in
+    rw (window_none a.head a.tail a.numbers.now a.values.now c.requires (omega arith)) refl
