@@ -1,7 +1,7 @@
 // The ends of slots under MF, on a window that lies within its lists.
-ghost use Rattle.model.specs.Lent.{lists_after};
+ghost use Rattle.model.specs.Lent.{lists_after, lists_before};
 ghost use Rattle.steps.specs.Window.{Within};
-ghost use Rattle.steps.specs.Lent.{lent_before, moved, moved_from};
+ghost use Rattle.steps.specs.Lent.{moved, lent};
 ghost use Rattle.mf_flush.specs.Flush.{mf_from, mf_to, Sends, EndedIn, EndsIn};
 
 use crate::sift::{flush, head_mark};
@@ -21,7 +21,7 @@ fn send(
     slot: Slot,
 ) -> Window
     requires { Within w numbers.now values.now }
-    ensures { Sends slot (moved_from w numbers values fates whens bys) (moved (lent_before result numbers values) (lists_after fates whens bys)) }
+    ensures { Sends slot (moved (lent w numbers.now values.now) (lists_before fates whens bys)) (moved (lent result numbers.now values.now) (lists_after fates whens bys)) }
 {
     let head = w.head;
     let tail = w.tail;

@@ -2,10 +2,10 @@
 #![tactic(auto)]
 
 ghost use Rattle.std.specs.Prelude.{◌≡◌, []};
-ghost use Rattle.model.specs.Lent.{lists_after};
+ghost use Rattle.model.specs.Lent.{lists_after, lists_before};
 ghost use Rattle.steps.specs.Window.{Oldest};
 ghost use Rattle.steps.specs.Guarded.{Guarded, lies_within};
-ghost use Rattle.steps.specs.Lent.{lent_before, lies_before, queue_in, moved, moved_from, on, sending_in};
+ghost use Rattle.steps.specs.Lent.{queue_in, moved, on, sending_in, lent};
 
 use checks::ranges::ROOM;
 use entry::enter;
@@ -39,7 +39,7 @@ pub fn lies_within(numbers: &[u32], values: &[u32], w: Window) -> bool
 
 // What the end of a slot answers: the oldest packet, or idle; idle too where the window does not lie within its lists.
 pub fn oldest(numbers: &[u32], values: &[u32], w: Window) -> SlotAnswer
-    ensures { Guarded (lies_before w numbers values) (Oldest (queue_in (lent_before w numbers values)) result) (Oldest [] result) }
+    ensures { Guarded (lies_within w numbers.now values.now) (Oldest (queue_in (lent w numbers.now values.now)) result) (Oldest [] result) }
 {
     if !lies_within(numbers, values, w) {
         return SlotAnswer::Idle;
@@ -58,7 +58,7 @@ pub fn send_until(
     from: Slot,
     until: Slot,
 ) -> Window
-    ensures { moved (lent_before result numbers values) (lists_after fates whens bys) ≡ on (sending_in from until) (moved_from w numbers values fates whens bys) }
+    ensures { moved (lent result numbers.now values.now) (lists_after fates whens bys) ≡ on (sending_in from until) (moved (lent w numbers.now values.now) (lists_before fates whens bys)) }
 {
     if !lies_within(numbers, values, w) {
         return w;
