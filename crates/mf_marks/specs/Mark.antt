@@ -8,8 +8,7 @@ use Rattle.model.specs.Policies.MF.{Marked, mark_down}
 use Rattle.model.specs.Lent.{LentList, was, left}
 use Rattle.steps.specs.declared.Window.{Window}
 use Rattle.steps.specs.Window.{window_of}
-use Rattle.steps.specs.Guarded.{Guarded}
-use Rattle.steps.specs.Lent.{lies_before}
+use Rattle.steps.specs.Guarded.{Guarded, lies_within}
 
 -- the first n packets from `head` on, newest first
 unfoldable pub older_than : List ℕ → List ℕ → ℕ → ℕ → List Packet
@@ -22,19 +21,19 @@ marked_by M slots now older p marks =
     cond (eqb p.value M.hi && eqb (slot_of slots p.number).0 now.0) (mark_down M.lo M.r p.number older marks) marks
 
 -- the marks once the packet at place i of the queue has had its turn
-abbrev pub marked_at : Marking → LentList → Slot → LentList → LentList → ℕ → ℕ → List ℕ → List ℕ
+abbrev pub marked_at : Marking → List ℕ → Slot → List ℕ → List ℕ → ℕ → ℕ → List ℕ → List ℕ
 marked_at M slots now numbers values head i marks =
-    marked_by M (was slots) now (older_than (was numbers) (was values) head i) (packet_in (was numbers) (was values) (head + i)) marks
+    marked_by M slots now (older_than numbers values head i) (packet_in numbers values (head + i)) marks
 
 -- a queue beside its marks
 abbrev pub beside : List Packet → List ℕ → Marked
 beside queue marks = record { queue = queue; marks = marks }
 
 -- a window's queue beside its marks before a call
-abbrev pub marked_before : Window → LentList → LentList → LentList → Marked
-marked_before w numbers values marks = beside (window_of w (was numbers) (was values)) (was marks)
+abbrev pub marked_before : Window → List ℕ → List ℕ → LentList → Marked
+marked_before w numbers values marks = beside (window_of w numbers values) (was marks)
 
 -- the marks after a call: these, where the window lies within its lists, else as before
-abbrev pub Marks : Window → LentList → LentList → LentList → (Marked → List ℕ) → Type 0
+abbrev pub Marks : Window → List ℕ → List ℕ → LentList → (Marked → List ℕ) → Type 0
 Marks w numbers values marks after =
-    Guarded (lies_before w numbers values) (left marks ≡ after (marked_before w numbers values marks)) (left marks ≡ was marks)
+    Guarded (lies_within w numbers values) (left marks ≡ after (marked_before w numbers values marks)) (left marks ≡ was marks)

@@ -29,7 +29,7 @@ pub fn mark(
     marking: Marking,
     slot: Slot,
 )
-    ensures { Marks w numbers values marks (marks_after room marking slots.now slot) }
+    ensures { Marks w numbers.now values.now marks (marks_after room marking slots.now slot) }
 {
     if !lies_within(numbers, values, w) {
         return;

@@ -75,7 +75,7 @@ fn mark_by(
     slot: Slot,
 )
     requires { Within (record { head = head; tail = head + i + 1 }) numbers.now values.now }
-    ensures { left marks ≡ marked_at marking slots slot numbers values head i (was marks) }
+    ensures { left marks ≡ marked_at marking slots.now slot numbers.now values.now head i (was marks) }
 {
     let k = head + i;
     let number = numbers[k];

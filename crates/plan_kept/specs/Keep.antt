@@ -5,7 +5,8 @@ use Rattle.model.specs.Packets.{arrivals}
 use Rattle.model.specs.Refusals.{plain_refusal}
 use Rattle.model.specs.Policies.Plan.{fits, keep_in_turn, plan_kept}
 use Rattle.model.specs.Rules.{Verdict}
-use Rattle.model.specs.Lent.{LentList, was, left, lists_before}
+use Rattle.model.specs.Record.{Lists}
+use Rattle.model.specs.Lent.{LentList, was, left}
 use Rattle.trace.specs.declared.Checked.{Checked}
 use Rattle.trace.specs.Checked.{verdict_of}
 use Rattle.steps.specs.Places.{packets_at}
@@ -87,7 +88,7 @@ kept_after verdict slots values room kept =
     cond (eqb verdict.number 0 && eqb (length kept) (length slots)) (plan_kept room (arrivals slots values)) kept
 
 -- the answer is the test of the plan's trace, and `kept` follows it
-abbrev pub TestsAndKeeps : LentList → LentList → LentList → LentList → LentList → LentList → ℕ → Checked → Type 0
-TestsAndKeeps slots values fates whens bys kept room answer =
-    let verdict = plain_refusal (was slots) (was values) room (lists_before fates whens bys) in
-    (verdict_of answer ≡ verdict) × (left kept ≡ kept_after verdict (was slots) (was values) room (was kept))
+abbrev pub TestsAndKeeps : List ℕ → List ℕ → Lists → LentList → ℕ → Checked → Type 0
+TestsAndKeeps slots values lists kept room answer =
+    let verdict = plain_refusal slots values room lists in
+    (verdict_of answer ≡ verdict) × (left kept ≡ kept_after verdict slots values room (was kept))

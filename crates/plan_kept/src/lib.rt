@@ -7,7 +7,6 @@ ghost use Rattle.model.specs.Packets.{arrivals};
 ghost use Rattle.model.specs.Refusals.{value_ok};
 ghost use Rattle.model.specs.Policies.Plan.{plan_kept};
 ghost use Rattle.model.specs.Record.{lists_of};
-ghost use Rattle.model.specs.Lent.{was};
 ghost use Rattle.laws.specs.Accepted.{Accepted};
 ghost use Rattle.plan_order.specs.Order.{Inside};
 ghost use Rattle.plan_kept.specs.Keep.{Triable, Reach, Raisable, Raised, Keepable, HeldAs, TakenInTurn, TestsAndKeeps};
@@ -118,7 +117,7 @@ pub fn keep(
     bys: &[u32],
     kept: &mut [u8],
 ) -> Checked
-    ensures { TestsAndKeeps slots values fates whens bys kept room result }
+    ensures { TestsAndKeeps slots.now values.now (lists_of fates.now whens.now bys.now) kept room result }
 {
     let tested = trace::check_plain(slots, values, room, fates, whens, bys);
     if kept.len() != slots.len() {

@@ -1,0 +1,13 @@
+-- The entries before i are 0.
+use borrow.Author.Rules.{rules}
+use Prim.Native.Nat.{◌-◌}
+use mathlib.Core.Path.{refl}
+use lib.ListN.{length}
+use Rattle.plan_kept.proofs.Keeping.{Clearing, clearing_start, clearing_turn, clearing_end}
+use Rattle.plan_kept.proofs.clear.Given as goal
+
+abbrev pub invariant-loop-i : goal.invariant-loop-i
+invariant-loop-i l = Clearing (length l.initial.kept) l.kept l.i
+
+abbrev pub decreases-loop-i : goal.decreases-loop-i
+decreases-loop-i l = length l.initial.kept - l.i

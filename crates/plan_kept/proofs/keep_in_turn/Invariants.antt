@@ -1,0 +1,15 @@
+-- What is left of the order, taken in turn from what is kept now, gives what the whole order gives; and the counts are those of what is kept now.
+use borrow.Author.Rules.{rules}
+use Prim.Native.Nat.{◌-◌}
+use mathlib.Core.Path.{◌≡◌, refl, ◌∙◌}
+use native.Mathlib.Omega.{arith}
+use lib.ListN.{length}
+use Rattle.plan_kept.specs.Keep.{HeldAs}
+use Rattle.plan_kept.proofs.Keeping.{Turning, turning_start, turning_next, turning_end}
+use Rattle.plan_kept.proofs.keep_in_turn.Given as goal
+
+abbrev pub invariant-loop-i : goal.invariant-loop-i
+invariant-loop-i l = (length l.kept ≡ length l.initial.kept) × HeldAs l.slots l.room l.kept l.held × Turning l.slots l.room l.order l.initial.kept l.kept l.i
+
+abbrev pub decreases-loop-i : goal.decreases-loop-i
+decreases-loop-i l = length l.order - l.i
