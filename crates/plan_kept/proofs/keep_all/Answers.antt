@@ -54,13 +54,10 @@ keep_in_turn-requires c = let start = c in
     let zeros = length-take-le n _ start.requires.accepted.few in
     let long = placed.auto.order ∙ zeros in
     let a = start.args in
-    let none = c.clear.ensures ∙ ap (λ (k : ℕ). replicate k 0) start.requires.kept_len in (
-      none_keepable a.slots.now a.values.now a.room start.requires.accepted c.clear.new.kept none,
-      (held_none a.slots.now a.room c.clear.new.kept _ none (first_zeros n record_limits.packets start.requires.accepted.few), order_inside a.slots.now a.values.now a.room start.requires.accepted _ placed.new.order _ zeros (take_at placed.new.order _ n long) placed.ensures),
-    )
+    let none = c.clear.ensures ∙ ap (λ (k : ℕ). replicate k 0) start.requires.kept_len in record { keepable = none_keepable a.slots.now a.values.now a.room start.requires.accepted c.clear.new.kept none; held_as = held_none a.slots.now a.room c.clear.new.kept _ none (first_zeros n record_limits.packets start.requires.accepted.few); inside = order_inside a.slots.now a.values.now a.room start.requires.accepted _ placed.new.order _ zeros (take_at placed.new.order _ n long) placed.ensures }
 
 pub shape_of-kept : goal.shape_of-kept
-shape_of-kept c = c.keep_in_turn.auto.1.1.1.1.0 ∙ c.clear.auto.kept
+shape_of-kept c = c.keep_in_turn.auto.kept ∙ c.clear.auto.kept
 
 pub returns : goal.returns
 returns c = let start = c in
@@ -71,4 +68,4 @@ returns c = let start = c in
     let a = start.args in
     let taken = c.keep_in_turn in
     plan_kept_lem a.slots.now a.values.now a.room start.requires.accepted _ placed.new.order _ zeros (take_at placed.new.order _ n long) placed.ensures
-    c.clear.new.kept taken.new.1.1.1.1.0 (c.clear.ensures ∙ ap (λ (k : ℕ). replicate k 0) start.requires.kept_len) taken.ensures
+    c.clear.new.kept taken.new.kept (c.clear.ensures ∙ ap (λ (k : ℕ). replicate k 0) start.requires.kept_len) taken.ensures
