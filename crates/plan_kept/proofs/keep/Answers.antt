@@ -22,5 +22,4 @@ returns-in-Accepted c = let a = c.args in
 
 pub returns-in_default : goal.returns-in_default
 returns-in_default c = let a = c.args in
-    let answer = c.enum_told-in_default-1.given in
     (c.check_plain-tested.ensures, refused_same a.slots.now a.values.now a.room a.kept.now c.in_default.field-0 (ap verdict_of (sym c.in_default.is) ∙ c.check_plain-tested.ensures))

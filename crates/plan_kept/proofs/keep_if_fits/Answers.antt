@@ -20,7 +20,8 @@ pub returns-then-place-end : goal.returns-then-place-end
 returns-then-place-end c = let start = c in
     let inside : start.args.place < length start.args.slots.now = omega (arith, start.requires.keepable.same, start.requires.place_in_bounds) in
     let free : get_or start.args.kept.now start.args.place 0 ≡ 0 = omega (arith, start.requires.held_as.single start.args.place inside, c.if-kept-place-eq1.false) in
-    more_kept _ _ _ _ _ start.requires.keepable start.requires.held_as inside free _ c.if-place-end.true (c.reach-end.ensures.spans c.if-place-end.true) _ c.raise.ensures
+    let both = more_kept start.args.slots.now start.args.room start.args.kept.now start.args.held.now start.args.place start.requires.keepable start.requires.held_as inside free _ c.if-place-end.true (c.reach-end.ensures.spans c.if-place-end.true) _ c.raise.ensures in
+    record { held_as_2 = both.0; taken_in_turn = both.1 }
 
 pub returns-else-place-end : goal.returns-else-place-end
 returns-else-place-end c = let start = c in
