@@ -1,0 +1,27 @@
+-- A refusal of the test is the answer; an accepted trace is one on which the policy can run.
+use mathlib.Core.Path.{sym, ap, ◌∙◌}
+use Rattle.model.specs.Calls.{mf_call}
+use Rattle.trace.specs.Checked.{verdict_of}
+use Rattle.steps.proofs.Answering.{refused, not_refused}
+use Rattle.runs_policy.proofs.Ready.{mf_ready}
+use borrow.Author.Rules.{rules}
+use Rattle.runs_policy.proofs.mf.Goals as goal
+
+pub finish_mf-requires : goal.finish_mf-requires
+finish_mf-requires c = let start = c in
+    let a = start.args in
+    let accepted = ap verdict_of (sym c.in-Accepted.is) ∙ c.check_mf.ensures in
+    mf_ready a.slots.now a.values.now a.room _ a.marking accepted
+
+pub returns-in-Refused : goal.returns-in-Refused
+unfolding mf_call
+returns-in-Refused c =
+    refused _ _ _ c.in-Refused.refusal (ap verdict_of (sym c.in-Refused.is) ∙ c.check_mf.ensures)
+
+pub returns-in-Accepted : goal.returns-in-Accepted
+unfolding mf_call
+returns-in-Accepted c = let start = c in
+    let a = start.args in
+    let accepted = ap verdict_of (sym c.in-Accepted.is) ∙ c.check_mf.ensures in
+    c.finish_mf.ensures
+    ∙ not_refused _ _ _ accepted

@@ -1,0 +1,28 @@
+-- A refusal of the test is the answer; an accepted trace is one on which the policy can run.
+use mathlib.Core.Path.{sym, ap, ◌∙◌}
+use Rattle.model.specs.Calls.{pg_call}
+use Rattle.trace.specs.Checked.{verdict_of}
+use Rattle.steps.proofs.Answering.{refused, not_refused}
+use Rattle.runs_rule.proofs.Ready.{pg_ready}
+use borrow.Author.Rules.{rules}
+use Rattle.runs_rule.proofs.pg.Goals as goal
+
+pub finish-requires : goal.finish-requires
+finish-requires c = let start = c in
+    let a = start.args in
+    let accepted = ap verdict_of (sym c.in-Accepted.is) ∙ c.check_pg.ensures in
+    let ready = pg_ready a.slots.now a.values.now a.room _ a.beta accepted in
+    record { ready = ready.0; le_room = ready.1 }
+
+pub returns-in-Refused : goal.returns-in-Refused
+unfolding pg_call
+returns-in-Refused c =
+    refused _ _ _ c.in-Refused.refusal (ap verdict_of (sym c.in-Refused.is) ∙ c.check_pg.ensures)
+
+pub returns-in-Accepted : goal.returns-in-Accepted
+unfolding pg_call
+returns-in-Accepted c = let start = c in
+    let a = start.args in
+    let accepted = ap verdict_of (sym c.in-Accepted.is) ∙ c.check_pg.ensures in
+    c.finish.ensures
+    ∙ not_refused _ _ _ accepted
