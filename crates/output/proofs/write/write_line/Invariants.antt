@@ -1,0 +1,17 @@
+-- `output::write_line` meets its contract: what is left of the line, and 21 places for each number that is left.
+use Prim.Native.Nat.{◌+◌, ◌-◌, ◌*◌, ◌≤◌}
+use mathlib.Core.Path.{refl, ◌∙◌}
+use native.Mathlib.Omega.{arith}
+use borrow.Author.Rules.{rules}
+use lib.ListN.{length, drop, length-set}
+use Rattle.output.specs.Output.{line_with}
+use Rattle.output.proofs.Writing.{Left, left_all, left_none, left_wrote, line_done, wrote_fits, line_turn, line_end, number_fits, number_long}
+use Rattle.output.proofs.write.write_line.Given as goal
+
+abbrev pub invariant-loop-i : goal.invariant-loop-i
+invariant-loop-i l = (l.i ≤ length l.numbers)
+    × (l.end + 21 * (length l.numbers - l.i) + 2 ≤ length l.out)
+    × Left l.at (line_with l.numbers) l.initial.out l.end (line_with (drop l.i l.numbers)) l.out
+
+abbrev pub decreases-loop-i : goal.decreases-loop-i
+decreases-loop-i l = length l.numbers - l.i
