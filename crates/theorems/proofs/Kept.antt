@@ -132,7 +132,9 @@ module _ (room : ℕ) (trace : List Arrival) where
       → Each (λ x. 1 ≤ allowed (place_in x)) order → (i : ℕ) → set_of (keep_in_turn room trace kept order) i ≤ allowed i
   unfolding keep_in_turn
   in_turn_only allowed kept [] h e i = h i
-  in_turn_only allowed kept (x ∷ order) h e i = in_turn_only allowed _ order (go (fits room trace (set kept (place_in x) 1))) e.1 i
+  in_turn_only allowed kept (x ∷ order) h e i =
+      in_turn_only allowed (cond (fits room trace (set kept (place_in x) 1)) (set kept (place_in x) 1) kept) order
+      (go (fits room trace (set kept (place_in x) 1))) e.1 i
     where
       go : (t : Bool) (i : ℕ) → set_of (cond t (set kept (place_in x) 1) kept) i ≤ allowed i
       go false i = h i
@@ -145,4 +147,4 @@ module _ (room : ℕ) (trace : List Arrival) where
       → keep_in_turn room trace kept (xs ++ ys) ≡ keep_in_turn room trace (keep_in_turn room trace kept xs) ys
   unfolding keep_in_turn
   in_turn_append kept [] ys = refl
-  in_turn_append kept (x ∷ xs) ys = in_turn_append _ xs ys
+  in_turn_append kept (x ∷ xs) ys = in_turn_append (cond (fits room trace (set kept (place_in x) 1)) (set kept (place_in x) 1) kept) xs ys

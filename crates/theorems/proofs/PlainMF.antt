@@ -11,7 +11,7 @@ use Rattle.model.specs.declared.PacketNumber.{PacketNumber}
 use Rattle.model.specs.declared.Slot.{Slot}
 use Rattle.model.specs.Packets.{Arrival, arrivals, slots_until, following, place_of, slot_of}
 use Rattle.model.specs.Record.{Entry, Lists}
-use Rattle.model.specs.Rules.{Verdict, clear}
+use Rattle.model.specs.Rules.{Verdict}
 use Rattle.model.specs.Refusals.{lo_or_hi, plain_refusal, mf_refusal, marking_refusal}
 use Rattle.model.specs.Course.{Step, Policy, and_then, by_rule, send_oldest, slot_ends, course, first}
 use Rattle.model.specs.Policies.Greedy.{greedy_rule}

@@ -2,7 +2,6 @@
 use mathlib.Core.Path.{ap}
 use Rattle.model.specs.Answers.{cause_number}
 use Rattle.port.specs.State.{refusing}
-use borrow.Author.Rules.{rules}
 use Rattle.port.proofs.unmade.Goals as goal
 
 pub returns : goal.returns

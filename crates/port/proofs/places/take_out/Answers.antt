@@ -3,7 +3,6 @@ use mathlib.Core.Path.{refl, ap}
 use mathlib.Core.List.{List}
 use Prim.Native.Nat.{ℕ, ◌-◌}
 use lib.ListN.{set}
-use borrow.Author.Rules.{rules}
 use Rattle.port.proofs.places.take_out.Goals as goal
 
 pub returns : goal.returns
