@@ -14,7 +14,7 @@ mod said;
 mod whole;
 
 use crate::answers::say_case;
-use libc::STDOUT_FILENO;
+use std::io;
 
 const BATCHES: u16 = 400;
 
@@ -25,37 +25,35 @@ fn letter(x: u64) -> u8 {
 }
 
 // Two letters of a sum, which lead from a difference in a batch to its case.
-fn write_letters(sum: u64) {
+fn write_letters<R: Print>(rt: &R, sum: u64) -> io::Result<()> {
     let letters = [letter(sum), letter(sum / 26)];
-    io::write_all(STDOUT_FILENO, &letters);
+    rt.write_all(&letters)
 }
 
 // Answers a batch's cases, and writes the letters of each. Gives their sum.
-fn answer(batch: u16) -> u64 {
+fn answer<R: Print>(rt: &R, batch: u16) -> io::Result<u64> {
     let mut sum: u64 = 1;
     let mut i = 0;
     while i < CASES {
         say_case(&mut sum, batch as u32 * CASES + i);
-        write_letters(sum);
+        write_letters(rt, sum)?;
         i += 1;
     }
-    sum
+    Ok(sum)
 }
 
 // A batch's line.
-fn write_line(batch: u16) {
-    io::print_decimal(STDOUT_FILENO, batch as u64);
-    io::write_all(STDOUT_FILENO, b",");
-    let sum = answer(batch);
-    io::write_all(STDOUT_FILENO, b",");
-    io::print_decimal(STDOUT_FILENO, sum);
-    io::write_all(STDOUT_FILENO, b"\n");
+fn write_line<R: Print>(rt: &R, batch: u16) -> io::Result<()> {
+    print!(rt; "{batch},")?;
+    let sum = answer(rt, batch)?;
+    println!(rt; ",{sum}")
 }
 
-fn main() {
+fn main(rt: HostRuntime) -> io::Result<()> {
     let mut batch = 0;
     while batch < BATCHES {
-        write_line(batch);
+        write_line(&rt, batch)?;
         batch += 1;
     }
+    Ok(())
 }

@@ -1,12 +1,12 @@
-// Standard input, read to its end in pieces, as rows of numbers under a header, into a lent table. It stops where a read fails, and where the input is as
+// A reader, read to its end in pieces, as rows of numbers under a header, into a lent table. It stops where a read fails, and where the input is as
 // long as a line's number can count, which no input is.
 #![tactic(auto)]
 
 ghost use Rattle.rows.specs.Reading.{state};
 ghost use Rattle.input.specs.Reads.{ReadOnce, EndedBy};
 
-use libc::STDIN_FILENO;
 use rows::{Parser, Rows};
+use std::io::Read;
 
 // The bytes of a piece.
 const PIECE: usize = 4_096;
@@ -30,26 +30,30 @@ pub enum Ended {
 }
 
 // Reads once and feeds what came.
-fn read_piece(parser: Parser, header: &[u8], table: &mut [u32], bytes: &mut [u8]) -> Piece
+fn read_piece<R: Read>(
+    reader: &mut R,
+    parser: Parser,
+    header: &[u8],
+    table: &mut [u32],
+    bytes: &mut [u8],
+) -> Piece
     ensures { ReadOnce header.now result (state parser table.old) table.new bytes.new }
 {
-    let got = libc::read(STDIN_FILENO, bytes);
-    if got < 0 {
+    let Ok(n) = reader.read(bytes) else {
         return Piece::Failed;
-    }
-    let n = io::count(got, bytes);
+    };
     Piece::Came(parser.feed(header, table, &bytes[..n]), n)
 }
 
-// Reads standard input to its end, and leaves its rows in the table, column by column.
-pub fn read_rows(header: &[u8], table: &mut [u32]) -> Ended
+// Reads the reader to its end, and leaves its rows in the table, column by column.
+pub fn read_rows<R: Read>(reader: &mut R, header: &[u8], table: &mut [u32]) -> Ended
     ensures { EndedBy header.now result table.old table.new }
 {
     let mut bytes = [0u8; PIECE];
     let mut parser = Parser::new(header);
     let mut left = BYTES;
     while 0 < left {
-        let Piece::Came(next, n) = read_piece(parser, header, table, &mut bytes) else {
+        let Piece::Came(next, n) = read_piece(reader, parser, header, table, &mut bytes) else {
             return Ended::Failed;
         };
         if n == 0 {

@@ -3,6 +3,7 @@ ghost use Rattle.std.specs.Prelude.{◌≡◌, length};
 ghost use Rattle.lab.specs.Heard.{most_words, HeardAs};
 
 use lab_jobs::words::word_of;
+use std::env::{Env, FillError};
 
 // The most words: a command, its room and 32 betas.
 pub const WORDS: usize = 34;
@@ -17,32 +18,36 @@ pub enum Arguments {
     Strange,
 }
 
-pub fn read_words(words: &mut [u8], firsts: &mut [u32], seconds: &mut [u32]) -> Arguments
+pub fn read_words<E: Env>(
+    env: &E,
+    words: &mut [u8],
+    firsts: &mut [u32],
+    seconds: &mut [u32],
+) -> Arguments
     requires words_len { length words.old ≡ most_words }
     requires firsts_len { length firsts.old ≡ most_words }
     requires seconds_len { length seconds.old ≡ most_words }
     ensures { HeardAs result words.new firsts.new seconds.new }
 {
-    let all = os::arg_count();
-    if all < 1 {
-        return Arguments::Strange;
-    }
-    let count = all - 1;
-    if WORDS < count {
-        return Arguments::Strange;
-    }
     let mut bytes = [0u8; BYTES];
+    if let Err(FillError::NotPresent) = env.arg(0, &mut bytes) {
+        return Arguments::Strange;
+    }
     let mut i = 0;
-    while i < count {
-        let got = os::arg(i + 1, &mut bytes);
-        if os::errno() != 0 {
-            return Arguments::Strange;
-        }
+    while i < WORDS {
+        let got = match env.arg(i + 1, &mut bytes) {
+            Ok(got) => got,
+            Err(FillError::NotPresent) => return Arguments::Words(i),
+            Err(FillError::TooLong) => return Arguments::Strange,
+        };
         let word = word_of(&bytes[..got]);
         words[i] = word.kind;
         firsts[i] = word.first;
         seconds[i] = word.second;
         i += 1;
     }
-    Arguments::Words(count)
+    match env.arg(WORDS + 1, &mut bytes) {
+        Err(FillError::NotPresent) => Arguments::Words(WORDS),
+        _ => Arguments::Strange,
+    }
 }

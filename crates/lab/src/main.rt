@@ -1,5 +1,5 @@
-// The lab program: it reads its arguments and standard input, and writes the answer. Where the arguments ask for nothing, or reading or writing fails,
-// it ends quietly.
+// The lab program: it reads its arguments and standard input, and writes the answer. Where the arguments ask for nothing, or reading fails, it ends
+// quietly. Where writing fails it ends with that error.
 #![tactic(auto)]
 
 mod answer;
@@ -18,11 +18,13 @@ use answer::answer;
 use arguments::{Arguments, WORDS, read_words};
 use input::{Ended, read_rows};
 use lab_jobs::jobs::{Job, job_from};
-use libc::STDOUT_FILENO;
 use model::{Cause, Record};
 use output::{OUTPUT, put_refusal};
 use rows::Rows;
 use signs::{RECORD, TRACE};
+use std::env::Env;
+use std::io;
+use std::io::Read;
 
 // A place for each packet in each column: of a trace, and of a record.
 const TRACE_TABLE: usize = 2 * Record::PACKETS;
@@ -38,14 +40,14 @@ enum Told {
 }
 
 // Reads the input of a job: a record for the audit, else a trace, into the table's first columns.
-fn read_input(job: Job, table: &mut [u32]) -> Ended
+fn read_input<R: Read>(reader: &mut R, job: Job, table: &mut [u32]) -> Ended
     requires { length table.old ≡ record_places }
     ensures { ReadFor job result table.old table.new }
 {
     if let Job::Audit(_) = job {
-        return read_rows(&RECORD, table);
+        return read_rows(reader, &RECORD, table);
     }
-    read_rows(&TRACE, &mut table[..TRACE_TABLE])
+    read_rows(reader, &TRACE, &mut table[..TRACE_TABLE])
 }
 
 // What is said of a job and what was read for it.
@@ -87,7 +89,13 @@ fn say_words(
 }
 
 // Reads the input, where the words ask for something, and puts the answer into the list.
-fn answer_words(words: &[u8], firsts: &[u32], seconds: &[u32], out: &mut [u8]) -> Told
+fn answer_words<R: Read>(
+    reader: &mut R,
+    words: &[u8],
+    firsts: &[u32],
+    seconds: &[u32],
+    out: &mut [u8],
+) -> Told
     requires seconds_len { length seconds.now ≡ length firsts.now }
     requires firsts_len_bound { length firsts.now ≤ most_words }
     requires output_limit_in_bounds { output_limit ≤ length out.old }
@@ -98,7 +106,7 @@ fn answer_words(words: &[u8], firsts: &[u32], seconds: &[u32], out: &mut [u8]) -
         return Told::Answered(0);
     }
     let mut rows = [0u32; RECORD_TABLE];
-    match read_input(job, &mut rows) {
+    match read_input(reader, job, &mut rows) {
         Ended::Read(read) => {
             let n = say_words(job, firsts, seconds, read, &rows, out);
             Told::Answered(n)
@@ -109,23 +117,29 @@ fn answer_words(words: &[u8], firsts: &[u32], seconds: &[u32], out: &mut [u8]) -
 }
 
 // Reads the arguments and answers them.
-fn answer_all(out: &mut [u8]) -> Told
+fn answer_all<E: Env, R: Read>(env: &E, reader: &mut R, out: &mut [u8]) -> Told
     requires { output_limit ≤ length out.old }
     ensures { ToldBy result out.new }
 {
     let mut words = [0u8; WORDS];
     let mut firsts = [0u32; WORDS];
     let mut seconds = [0u32; WORDS];
-    let Arguments::Words(count) = read_words(&mut words, &mut firsts, &mut seconds) else {
+    let Arguments::Words(count) = read_words(env, &mut words, &mut firsts, &mut seconds) else {
         return Told::Answered(0);
     };
-    answer_words(&words[..count], &firsts[..count], &seconds[..count], out)
+    answer_words(
+        reader,
+        &words[..count],
+        &firsts[..count],
+        &seconds[..count],
+        out,
+    )
 }
 
-fn main() {
+fn main(rt: HostRuntime) -> io::Result<()> {
     let mut out = [0u8; OUTPUT];
-    let Told::Answered(n) = answer_all(&mut out) else {
-        return;
+    let Told::Answered(n) = answer_all(&rt, &mut rt.stdin(), &mut out) else {
+        return Ok(());
     };
-    io::write_all(STDOUT_FILENO, &out[..n]);
+    rt.write_all(&out[..n])
 }
