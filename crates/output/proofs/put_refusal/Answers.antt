@@ -8,8 +8,5 @@ use Rattle.output.proofs.put_refusal.Goals as goal
 pub returns-then-out-lt-REFUSED : goal.returns-then-out-lt-REFUSED
 returns-then-out-lt-REFUSED c = put_full (omega arith)
 
--- LOST slice-aggregate-write-bytes : tie.Need-slice-aggregate-write-bytes
--- slice-aggregate-write-bytes c = search rules
-
 pub returns : goal.returns
 returns c = put_fits (omega arith) (wrote_both c.write_bytes-at.ensures c.write_line.ensures)

@@ -38,9 +38,6 @@ loop-i-preserved c = let loop = c in
       line_end a.at a.numbers.now a.out.now loop.loop-i.end _ loop.loop-i.i loop.loop-i.invariant.2 _ _ c.write_number-end.ensures (omega arith) c.if-i-numbers.false,
     )
 
--- LOST slice-aggregate-write-bytes : tie.Need-slice-aggregate-write-bytes invariant-loop decreases-loop
--- slice-aggregate-write-bytes c = search rules
-
 pub shape_of-out : goal.shape_of-out
 shape_of-out c = c.write_bytes.auto.out ∙ c.loop-i.invariant.2.long
 

@@ -16,8 +16,8 @@ slice_bounds-write_bytes-end c = simp length-set (omega arith)
 pub write_bytes-requires : goal.write_bytes-requires
 write_bytes-requires c = let loop = c in
     let a = c.args in
-    let e = digits_part a.number _ loop.loop.left loop.loop.i loop.loop.invariant.2 (omega arith) (omega arith) loop.loop.invariant.3 c.if-left-lt10.true in
-    omega (arith, ap length e, decimal_length a.number, ap length loop.loop.invariant.0)
+    let e = digits_part a.number _ loop.loop-i.left loop.loop-i.i loop.loop-i.invariant.2 (omega arith) (omega arith) loop.loop-i.invariant.3 c.if-left-lt10.true in
+    omega (arith, ap length e, decimal_length a.number, ap length loop.loop-i.invariant.0)
 
 pub shape_of-out-then-left-lt10 : goal.shape_of-out-then-left-lt10
 shape_of-out-then-left-lt10 c = c.write_bytes.auto.out ∙ ap length c.loop-i.invariant.0
@@ -25,7 +25,7 @@ shape_of-out-then-left-lt10 c = c.write_bytes.auto.out ∙ ap length c.loop-i.in
 pub returns-then-left-lt10 : goal.returns-then-left-lt10
 returns-then-left-lt10 c = let loop = c in
     let a = c.args in
-    wrote_same (digits_part a.number _ loop.loop.left loop.loop.i loop.loop.invariant.2 (omega arith) (omega arith) loop.loop.invariant.3 c.if-left-lt10.true) loop.loop.invariant.0 c.write_bytes.ensures
+    wrote_same (digits_part a.number _ loop.loop-i.left loop.loop-i.i loop.loop-i.invariant.2 (omega arith) (omega arith) loop.loop-i.invariant.3 c.if-left-lt10.true) loop.loop-i.invariant.0 c.write_bytes.ensures
 
 pub loop-i-preserved : goal.loop-i-preserved
 loop-i-preserved c = let loop = c in
