@@ -4,4 +4,4 @@ use Rattle.audit.proofs.Fates.{outside}
 use Rattle.audit.proofs.fate_of.Goals as goal
 
 pub returns-in_default : goal.returns-in_default
-returns-in_default c = outside _ c.in_default.rest.0.0.0.0.1 c.in_default.rest.0.0.0.1 c.in_default.rest.0.0.1 c.in_default.rest.0.1 c.in_default.rest.1
+returns-in_default c = outside _ c.in_default.in_default-own.rest.0.0.0.0.1 c.in_default.in_default-own.rest.0.0.0.1 c.in_default.in_default-own.rest.0.0.1 c.in_default.in_default-own.rest.0.1 c.in_default.in_default-own.rest.1

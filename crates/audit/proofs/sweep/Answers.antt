@@ -2,7 +2,7 @@
 use borrow.Author.Rules.{rules}
 use mathlib.Core.Path.{◌≡◌, refl, sym, ap, subst, ◌∙◌}
 use lib.ListN.{length, get_or}
-use mathlib.Core.Bool.{true}
+use mathlib.Core.Bool.{true, cond}
 use mathlib.Core.List.{List}
 use Prim.Native.Nat.{ℕ, ◌-◌, ◌≤◌, ◌<◌}
 use native.Mathlib.Omega.{arith}
@@ -13,6 +13,13 @@ use Rattle.audit.proofs.Turn as turn
 use Rattle.audit.specs.Rows.{row_at, Reads}
 use Rattle.audit_faults.specs.Faults.{row_of}
 use Rattle.audit.specs.declared.Read.{Read}
+use Rattle.audit.specs.declared.Read.TheVariants as reads
+use Rattle.laws.specs.Accepted.{Accepted}
+use Rattle.model.specs.declared.Fate.{Fate}
+use Rattle.model.specs.declared.Slot.{Slot}
+use Rattle.model.specs.Refusals.{value_ok}
+use Rattle.audit.specs.Sweep.{leave_of}
+use lib.Dec.{ltb}
 use Rattle.audit_faults.specs.declared.Found.{Found}
 use Rattle.model.specs.Answers.{fault_number}
 use Rattle.model.specs.Limits.{record_limits}
@@ -22,47 +29,18 @@ use Rattle.model.specs.Rules.{clear, verdict_if}
 use Rattle.audit_faults.specs.declared.FatedRow.{FatedRow}
 use Rattle.audit.proofs.sweep.Goals as goal
 
--- where the loop began, and the record's three lists
-abbrev start : tie.At-loop invariant-loop decreases-loop → tie.Start invariant-loop decreases-loop
-start c = c.before.before.before.before.before.before
-
-abbrev lists : tie.At-loop invariant-loop decreases-loop → Lists
-lists c = let a = (start c).args in lists_of a.fates.now a.whens.now a.bys.now
-
--- the packet's own row
-abbrev row : tie.At-loop invariant-loop decreases-loop → Row
-row c = row_at (start c).args.slots.now (start c).args.values.now (lists c) c.loop.i
-
 -- the turn, once the packet has been read
-abbrev head : tie.After-known-told invariant-loop decreases-loop → tie.At-loop invariant-loop decreases-loop
-head c = c.before.before.before.before.before
-
-abbrev given-row : tie.After-known-told invariant-loop decreases-loop → FatedRow
-given-row c = c.before.row.given.0.0
-
-at_turn : (c : tie.After-known-told invariant-loop decreases-loop) → let a = (start (head c)).args in let l = (head c).loop in
-    Turn a.slots.now a.values.now a.room (lists (head c)) l.i l.held l.most l.last l.leaving (row_of (given-row c)) (given-row c).fate
-at_turn c =
+at_turn : {slots values : List ℕ} {room : ℕ} {lists : Lists} {i held most : ℕ} (last : Slot) {leaving : List ℕ} (row : FatedRow) {read : Read}
+    → Accepted value_ok slots values room lists → Kept slots values room lists i held most last.0 leaving → i < length slots
+    → Reads (row_at slots values lists i) read → read ≡ reads.Row row → Turn slots values room lists i held most last leaving (row_of row) row.fate
+at_turn {slots = slots} {values = values} {lists = lists} {i = i} last row tested kept here reads is =
     record {
-      tested = (start (head c)).pre;
-      kept = (head c).loop.invariant;
-      here = omega (arith, c.before.before.before.before.loop-test.true);
-      row_is = subst (λ (x : Read). Reads (row (head c)) x) c.before.row.given.1 c.before.before.before.row_at.ensures;
+      tested = tested;
+      kept = kept;
+      here = here;
+      row_is = subst (λ (x : Read). Reads (row_at slots values lists i) x) is reads;
       fate_is = refl;
     }
-
--- where nothing was found at it
-abbrev found : tie.After-enum-told2 invariant-loop decreases-loop → tie.After-known-told invariant-loop decreases-loop
-found c = c.before.before.before
-
-clear-here : (c : tie.After-enum-told2 invariant-loop decreases-loop)
-    → row_fault (start (head (found c))).args.slots.now (head (found c)).loop.last.0 (row_of (given-row (found c))) ≡ clear
-clear-here c =
-    sym c.before.before.fault-of.ensures ∙ ap (λ (x : Found). found_of x (given-row (found c)).number) c.enum-told2.given.1
-
--- where it is known how long it stays
-abbrev clear_at : tie.After-only-if invariant-loop decreases-loop → tie.After-enum-told2 invariant-loop decreases-loop
-clear_at c = c.before.before.before
 
 -- every place that the turn reads or writes is one of the array, and every count there is small
 record Bounds (i leave stays : ℕ) (leaving : List ℕ) : Type 0 where
@@ -72,28 +50,27 @@ record Bounds (i leave stays : ℕ) (leaving : List ℕ) : Type 0 where
   count_here : get_or leaving i 0 ≤ i
   count_there : get_or leaving leave 0 ≤ i
 
-bounds : (c : tie.After-only-if invariant-loop decreases-loop) → let l = (head (found (clear_at c))).loop in
-    Bounds l.i c.before.leave-of.result c.only_if.result l.leaving
-bounds c =
-    let at-loop = head (found (clear_at c)) in
-    let this = at_turn (found (clear_at c)) in
-    let places = at-loop.loop.inv.places in
-    let in_array = turn.leave_in this (clear-here (clear_at c)) c.before.leave-of.ensures c.only_if.ensures in
+bounds : {slots values : List ℕ} {room : ℕ} {lists : Lists} {i held most : ℕ} {last : Slot} {leaving : List ℕ} {r : Row} {f : Fate}
+    (t : Turn slots values room lists i held most last leaving r f) → row_fault slots last.0 r ≡ clear → {leave stays : ℕ} → leave ≡ leave_of slots r
+    → stays ≡ cond (ltb i leave) 1 0 → Bounds i leave stays leaving
+bounds {i = i} t clean {leave = leave} leave_is stays_is =
+    let in_array = turn.leave_in t clean leave_is stays_is in
     record {
-      here = omega (arith, this.here, this.tested.few);
-      there = omega (arith, in_array, places);
-      stay = turn.stays_le this (clear-here (clear_at c)) c.before.leave-of.ensures c.only_if.ensures;
-      count_here = at-loop.loop.inv.small at-loop.loop.i;
-      count_there = at-loop.loop.inv.small c.before.leave-of.result;
+      here = omega (arith, t.here, t.tested.few);
+      there = omega (arith, in_array, t.kept.places);
+      stay = turn.stays_le t clean leave_is stays_is;
+      count_here = t.kept.small i;
+      count_there = t.kept.small leave;
     }
 
 pub loop-i-init : goal.loop-i-init
-loop-i-init c = let first = c in
-    let a = first.args in
-    kept_start a.slots.now a.values.now a.room (lists_of a.fates.now a.whens.now a.bys.now) _ refl first.requires.few
+loop-i-init c =
+    let a = c.args in
+    kept_start a.slots.now a.values.now a.room (lists_of a.fates.now a.whens.now a.bys.now) _ refl c.requires.few
 
 pub row_at-requires : goal.row_at-requires
-row_at-requires c = let t = (start c).pre in
+row_at-requires c =
+    let t = c.requires in
     record {
       in_slots = omega arith;
       in_values = omega (arith, t.lengths);
@@ -104,83 +81,119 @@ row_at-requires c = let t = (start c).pre in
     }
 
 pub faulty-requires : goal.faulty-requires
-faulty-requires c = omega (arith, (start c).pre.few, c.loop-i-test.true)
+faulty-requires c = omega (arith, c.requires.few, c.loop-i-test.true)
 
 pub returns-in_default : goal.returns-in_default
-returns-in_default c = let in-loop = c in
-    let at-loop = in-loop in
-    let a = (start at-loop).args in
-    let l = at-loop.loop-i in
+returns-in_default c =
+    let a = c.args in
+    let l = c.loop-i in
+    let lists = lists_of a.fates.now a.whens.now a.bys.now in
     rw c.faulty.ensures
-    (turn_outside a.slots.now a.values.now a.room (lists at-loop) l.i l.held l.most l.last.0 l.leaving (start at-loop).requires l.invariant (omega (arith, in-loop.loop-i-test.true))
-    (subst (λ (x : Read). Reads (row at-loop) x) c.in_default.is c.row_at.ensures))
+    (turn_outside a.slots.now a.values.now a.room lists l.i l.held l.most l.last.0 l.leaving c.requires l.invariant c.loop-i-test.true
+    (subst (λ (x : Read). Reads (row_at a.slots.now a.values.now lists l.i) x) c.in_default.is c.row_at.ensures))
 
 pub faulty-requires-in-Fault : goal.faulty-requires-in-Fault
-faulty-requires-in-Fault c = let known = c in
-    omega (arith, (at_turn known).here, (at_turn known).tested.few)
+faulty-requires-in-Fault c = omega (arith, c.requires.few, c.loop-i-test.true)
 
 pub returns-in-Fault : goal.returns-in-Fault
-returns-in-Fault c = let said = c in
-    let known = said in
-    let g = said.in-Fault.fault in
+returns-in-Fault c =
+    let t = at_turn c.loop-i.last c.in-Row.row c.requires c.loop-i.invariant c.loop-i-test.true c.row_at.ensures c.in-Row.is in
+    let g = c.in-Fault.fault in
     rw c.faulty-in-Fault.ensures
-    (turn.on_fault (at_turn known) g
-    (sym said.fault_of.ensures
-    ∙ ap (λ (x : Found). found_of x (given-row known).number) said.in-Fault.is
-    ∙ ap (λ (n : ℕ). verdict_if true (fault_number g) n) (ap (λ (x : Row). x.number.0) (at_turn known).row_is ∙ sym (add-one (head known).loop.i))))
+    (turn.on_fault t g
+    (sym c.fault_of.ensures
+    ∙ ap (λ (x : Found). found_of x c.in-Row.row.number) c.in-Fault.is
+    ∙ ap (λ (n : ℕ). verdict_if true (fault_number g) n) (ap (λ (x : Row). x.number.0) t.row_is ∙ sym (add-one c.loop-i.i))))
 
 pub leave_of-leave-requires : goal.leave_of-leave-requires
-leave_of-leave-requires c = (
-  (start (head (found c))).pre.packets.never_down,
-  turn.by_right (at_turn (found c)) (clear-here c),
-)
+leave_of-leave-requires c =
+    let t = at_turn c.loop-i.last c.in-Row.row c.requires c.loop-i.invariant c.loop-i-test.true c.row_at.ensures c.in-Row.is in
+    let clean = sym c.fault_of.ensures ∙ ap (λ (x : Found). found_of x c.in-Row.row.number) c.in_default-fault_of.is in
+    (c.requires.packets.never_down, turn.by_right t clean)
 
 pub offset_bounds-leaving-i : goal.offset_bounds-leaving-i
-offset_bounds-leaving-i c = omega (arith, bounds c)
+offset_bounds-leaving-i c =
+    let t = at_turn c.loop-i.last c.in-Row.row c.requires c.loop-i.invariant c.loop-i-test.true c.row_at.ensures c.in-Row.is in
+    let clean = sym c.fault_of.ensures ∙ ap (λ (x : Found). found_of x c.in-Row.row.number) c.in_default-fault_of.is in
+    let b = bounds t clean c.leave_of-leave.ensures c.only_if-stays.ensures in
+    omega (arith, b.here)
 
 pub bounds-leaving-i : goal.bounds-leaving-i
-bounds-leaving-i c = omega (arith, bounds c)
+bounds-leaving-i c =
+    let t = at_turn c.loop-i.last c.in-Row.row c.requires c.loop-i.invariant c.loop-i-test.true c.row_at.ensures c.in-Row.is in
+    let clean = sym c.fault_of.ensures ∙ ap (λ (x : Found). found_of x c.in-Row.row.number) c.in_default-fault_of.is in
+    let b = bounds t clean c.leave_of-leave.ensures c.only_if-stays.ensures in
+    omega (arith, b.here)
 
 pub overflow_sub-held : goal.overflow_sub-held
-overflow_sub-held c = turn.leaving_le (at_turn (found (clear_at c)))
+overflow_sub-held c =
+    let t = at_turn c.loop-i.last c.in-Row.row c.requires c.loop-i.invariant c.loop-i-test.true c.row_at.ensures c.in-Row.is in
+    turn.leaving_le t
 
 pub overflow_add-held : goal.overflow_add-held
-overflow_add-held c = omega (arith, bounds c, turn.held_le (at_turn (found (clear_at c))))
+overflow_add-held c =
+    let t = at_turn c.loop-i.last c.in-Row.row c.requires c.loop-i.invariant c.loop-i-test.true c.row_at.ensures c.in-Row.is in
+    let clean = sym c.fault_of.ensures ∙ ap (λ (x : Found). found_of x c.in-Row.row.number) c.in_default-fault_of.is in
+    let b = bounds t clean c.leave_of-leave.ensures c.only_if-stays.ensures in
+    let held = turn.held_le t in
+    omega (arith, b.here, b.stay, held)
 
 pub offset_bounds-leaving-leave : goal.offset_bounds-leaving-leave
-offset_bounds-leaving-leave c = omega (arith, bounds c)
+offset_bounds-leaving-leave c =
+    let t = at_turn c.loop-i.last c.in-Row.row c.requires c.loop-i.invariant c.loop-i-test.true c.row_at.ensures c.in-Row.is in
+    let clean = sym c.fault_of.ensures ∙ ap (λ (x : Found). found_of x c.in-Row.row.number) c.in_default-fault_of.is in
+    let b = bounds t clean c.leave_of-leave.ensures c.only_if-stays.ensures in
+    omega (arith, b.there)
 
 pub bounds-leaving-leave : goal.bounds-leaving-leave
-bounds-leaving-leave c = omega (arith, bounds c)
-
-pub overflow_add-leaving : goal.overflow_add-leaving
-overflow_add-leaving c = omega (arith, bounds c)
+bounds-leaving-leave c =
+    let t = at_turn c.loop-i.last c.in-Row.row c.requires c.loop-i.invariant c.loop-i-test.true c.row_at.ensures c.in-Row.is in
+    let clean = sym c.fault_of.ensures ∙ ap (λ (x : Found). found_of x c.in-Row.row.number) c.in_default-fault_of.is in
+    let b = bounds t clean c.leave_of-leave.ensures c.only_if-stays.ensures in
+    omega (arith, b.there)
 
 pub bounds-leaving-leave-in-loop-i : goal.bounds-leaving-leave-in-loop-i
-bounds-leaving-leave-in-loop-i c = omega (arith, bounds c)
+bounds-leaving-leave-in-loop-i c =
+    let t = at_turn c.loop-i.last c.in-Row.row c.requires c.loop-i.invariant c.loop-i-test.true c.row_at.ensures c.in-Row.is in
+    let clean = sym c.fault_of.ensures ∙ ap (λ (x : Found). found_of x c.in-Row.row.number) c.in_default-fault_of.is in
+    let b = bounds t clean c.leave_of-leave.ensures c.only_if-stays.ensures in
+    omega (arith, b.there)
+
+pub overflow_add-leaving : goal.overflow_add-leaving
+overflow_add-leaving c =
+    let t = at_turn c.loop-i.last c.in-Row.row c.requires c.loop-i.invariant c.loop-i-test.true c.row_at.ensures c.in-Row.is in
+    let clean = sym c.fault_of.ensures ∙ ap (λ (x : Found). found_of x c.in-Row.row.number) c.in_default-fault_of.is in
+    let b = bounds t clean c.leave_of-leave.ensures c.only_if-stays.ensures in
+    omega (arith, b.here, b.stay, b.count_there)
 
 pub overflow_cast-held : goal.overflow_cast-held
-overflow_cast-held c = omega (arith, bounds c, turn.held_le (at_turn (found (clear_at c))))
+overflow_cast-held c =
+    let t = at_turn c.loop-i.last c.in-Row.row c.requires c.loop-i.invariant c.loop-i-test.true c.row_at.ensures c.in-Row.is in
+    let clean = sym c.fault_of.ensures ∙ ap (λ (x : Found). found_of x c.in-Row.row.number) c.in_default-fault_of.is in
+    let b = bounds t clean c.leave_of-leave.ensures c.only_if-stays.ensures in
+    let held = turn.held_le t in
+    omega (arith, b.here, b.stay, held)
 
 pub faulty-requires-then-room-held : goal.faulty-requires-then-room-held
-faulty-requires-then-room-held c = let known = found (clear_at c) in
-    omega (arith, (at_turn known).here, (at_turn known).tested.few)
+faulty-requires-then-room-held c = omega (arith, c.requires.few, c.loop-i-test.true)
 
 pub returns-then-room-held : goal.returns-then-room-held
-returns-then-room-held c = let at = c in
-    rw c.faulty-then-room-held.ensures
-    (turn.on_over (at_turn (found (clear_at at))) (clear-here (clear_at at)) at.leave_of-leave.ensures at.only_if-stays.ensures c.if-room-held.true)
+returns-then-room-held c =
+    let t = at_turn c.loop-i.last c.in-Row.row c.requires c.loop-i.invariant c.loop-i-test.true c.row_at.ensures c.in-Row.is in
+    let clean = sym c.fault_of.ensures ∙ ap (λ (x : Found). found_of x c.in-Row.row.number) c.in_default-fault_of.is in
+    rw c.faulty-then-room-held.ensures (turn.on_over t clean c.leave_of-leave.ensures c.only_if-stays.ensures c.if-room-held.true)
 
 pub overflow_add-i : goal.overflow_add-i
-overflow_add-i c = let at-loop = head (found (clear_at c)) in
-    omega (arith, (start at-loop).pre.few, (at_turn (found (clear_at c))).here)
+overflow_add-i c = omega (arith, c.requires.few, c.loop-i-test.true)
 
 pub loop-i-preserved : goal.loop-i-preserved
-loop-i-preserved c = let at = c in
-    turn.on_clear (at_turn (found (clear_at at))) (clear-here (clear_at at)) at.leave_of-leave.ensures at.only_if-stays.ensures c.if-room-held.false c.greater-most.ensures at.last_of-last.ensures
+loop-i-preserved c =
+    let t = at_turn c.loop-i.last c.in-Row.row c.requires c.loop-i.invariant c.loop-i-test.true c.row_at.ensures c.in-Row.is in
+    let clean = sym c.fault_of.ensures ∙ ap (λ (x : Found). found_of x c.in-Row.row.number) c.in_default-fault_of.is in
+    turn.on_clear t clean c.leave_of-leave.ensures c.only_if-stays.ensures c.if-room-held.false c.greater-most.ensures c.last_of-last.ensures
 
 pub returns : goal.returns
-returns c = let at-loop = c in
-    let a = (start at-loop).args in
-    let l = at-loop.loop-i in
-    kept_end a.slots.now a.values.now a.room (lists at-loop) l.i l.held l.most l.last.0 l.leaving l.invariant c.loop-i-test.false
+returns c =
+    let a = c.args in
+    let l = c.loop-i in
+    kept_end a.slots.now a.values.now a.room (lists_of a.fates.now a.whens.now a.bys.now) l.i l.held l.most l.last.0 l.leaving l.invariant c.loop-i-test.false
