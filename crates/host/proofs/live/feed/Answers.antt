@@ -1,0 +1,26 @@
+-- `host::live::feed` meets its contract. The loop's invariant: what is heard of the events that are left, from the port and the sum so far, is what is heard of
+-- all of them.
+use Prim.Native.Nat.{◌≤◌, ◌<◌, ◌-◌, ◌^◌}
+use mathlib.Core.Path.{◌≡◌, refl, sym, ◌∙◌}
+use mathlib.Core.Logic.{⊎_elim}
+use native.Mathlib.Omega.{arith}
+use lib.ListN.{length, drop}
+use borrow.Author.Rules.{rules}
+use Rattle.port.specs.State.{state_of}
+use Rattle.host.specs.Live.{heard}
+use Rattle.host.proofs.Hearing.{mixed_fits, heard_done, heard_end, heard_arrival}
+use Rattle.host.proofs.live.feed.Goals as goal
+use Rattle.host.proofs.live.feed.Goals.{else-event-eq0, then-event-eq0}
+
+pub loop-i-init : goal.loop-i-init
+loop-i-init c = (omega arith, omega arith, refl)
+
+pub loop-i-preserved : goal.loop-i-preserved
+loop-i-preserved c = let loop = c in
+    let events = loop.args.events.now in
+    let i = loop.loop-i.i in
+    elim c.if-event-eq0.branch [ then-event-eq0 w ↦ (omega arith, rw (w.5, w.3.ensures) (mixed_fits _ _ _ _ _ _), rw (w.4, w.5) (heard_end (state_of loop.loop-i.left) loop.loop-i.sum events i (omega arith) _ w.1.ensures w.0.taken w.3.ensures loop.loop-i.invariant.2)) | else-event-eq0 w ↦ (omega arith, rw (w.5, w.3.ensures) (mixed_fits _ _ _ _ _ _), rw (w.4, w.5) (heard_arrival (state_of loop.loop-i.left) loop.loop-i.sum events i (omega arith) _ w.1.ensures w.0.left w.3.ensures loop.loop-i.invariant.2)) ]
+
+pub returns : goal.returns
+returns c = let loop = c in
+    sym (heard_done _ _ loop.args.events.now loop.loop-i.i (omega arith)) ∙ loop.loop-i.invariant.2

@@ -1,0 +1,18 @@
+-- `lab_table::line::put_numbers` meets its contract: what is left to write, and 21 places for each number that is left.
+use Prim.Native.Nat.{◌+◌, ◌-◌, ◌*◌, ◌≤◌}
+use mathlib.Core.Path.{refl}
+use native.Mathlib.Omega.{arith}
+use lib.ListN.{length, drop}
+use Rattle.output.proofs.Writing.{Left, left_all, left_none}
+use Rattle.lab_table.specs.Line.{behind_commas}
+use Rattle.lab_table.proofs.Chain.{commas_done, commas_turn, commas_near, commas_long}
+use borrow.Author.Rules.{rules}
+use Rattle.lab_table.proofs.line.put_numbers.Given as goal
+
+abbrev pub invariant-loop-i : goal.invariant-loop-i
+invariant-loop-i l = (l.i ≤ length l.numbers)
+    × (l.end + 21 * (length l.numbers - l.i) ≤ length l.out)
+    × Left l.at (behind_commas l.numbers) l.initial.out l.end (behind_commas (drop l.i l.numbers)) l.out
+
+abbrev pub decreases-loop-i : goal.decreases-loop-i
+decreases-loop-i l = length l.numbers - l.i

@@ -1,0 +1,16 @@
+-- `lab_table::lines::lowest` meets its contract: the lowest so far, and the values that are left.
+use Prim.Native.Nat.{◌-◌, ◌≤◌, min}
+use mathlib.Core.Path.{◌≡◌, refl}
+use mathlib.Core.Logic.{⊎_elim}
+use native.Mathlib.Omega.{arith}
+use lib.ListN.{length, get_or, drop}
+use Rattle.lab_table.specs.Table.{lowest_from, lowest}
+use Rattle.lab_table.proofs.Extremes.{lowest_none, lowest_first, lowest_turn, lowest_done}
+use borrow.Author.Rules.{rules}
+use Rattle.lab_table.proofs.lines.lowest.Given as goal
+
+abbrev pub invariant-loop-i : goal.invariant-loop-i
+invariant-loop-i l = (l.i ≤ length l.values) × (lowest_from l.low (drop l.i l.values) ≡ lowest l.values)
+
+abbrev pub decreases-loop-i : goal.decreases-loop-i
+decreases-loop-i l = length l.values - l.i
