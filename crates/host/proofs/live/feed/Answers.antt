@@ -19,7 +19,20 @@ pub loop-i-preserved : goal.loop-i-preserved
 loop-i-preserved c = let loop = c in
     let events = loop.args.events.now in
     let i = loop.loop-i.i in
-    elim c.if-event-eq0.branch [ then-event-eq0 w ↦ (omega arith, rw (w.5, w.3.ensures) (mixed_fits _ _ _ _ _ _), rw (w.4, w.5) (heard_end (state_of loop.loop-i.left) loop.loop-i.sum events i (omega arith) _ w.1.ensures w.0.taken w.3.ensures loop.loop-i.invariant.2)) | else-event-eq0 w ↦ (omega arith, rw (w.5, w.3.ensures) (mixed_fits _ _ _ _ _ _), rw (w.4, w.5) (heard_arrival (state_of loop.loop-i.left) loop.loop-i.sum events i (omega arith) _ w.1.ensures w.0.left w.3.ensures loop.loop-i.invariant.2)) ]
+    elim c.if-event-eq0.branch [
+      then-event-eq0 w ↦ (
+        omega arith,
+        rw (w.sum-is, w.mix_slot-sum.ensures) (mixed_fits _ _ _ _ _ _),
+        rw (w.left-is, w.sum-is)
+            (heard_end (state_of loop.loop-i.left) loop.loop-i.sum events i (omega arith) _ w.end_of_slot-end.ensures w.if-event-eq0.true w.mix_slot-sum.ensures loop.loop-i.invariant.2),
+      )
+    | else-event-eq0 w ↦ (
+        omega arith,
+        rw (w.sum-is, w.mix_arrival-sum.ensures) (mixed_fits _ _ _ _ _ _),
+        rw (w.left-is, w.sum-is)
+            (heard_arrival (state_of loop.loop-i.left) loop.loop-i.sum events i (omega arith) _ w.arrive-arrival.ensures w.if-event-eq0.false w.mix_arrival-sum.ensures loop.loop-i.invariant.2),
+      )
+    ]
 
 pub returns : goal.returns
 returns c = let loop = c in
