@@ -20,7 +20,7 @@ returns-then-not-in_range c =
 pub returns-then-not-left : goal.returns-then-not-left
 returns-then-not-left c =
     let sounds : sound (state_of c.args.self) ≡ true = sym c.is_sound-sound.ensures ∙ c.if-not-sound.false in
-    let ranged : value_ok c.args.value ≡ true = sym c.value_ok-in_range.ensures ∙ c.if-not-in_range.false in
+    let ranged : value_ok c.args.value ≡ true = cc in
     c.refuse-then-not-left.ensures
     ∙ arrival_spent (state_of c.args.self) c.args.value sounds ranged c.if-not-left.true
 
