@@ -6,7 +6,6 @@ use mathlib.Core.Path.{◌≡◌, refl, ap, ◌∙◌}
 use mathlib.Core.Bool.{false}
 use mathlib.Core.List.{List, []}
 use lib.Dec.{eqb}
-use Rattle.model.specs.declared.Cause.TheVariants as causes
 use Rattle.model.specs.declared.Fault.{Fault}
 use Rattle.model.specs.declared.Fault.TheVariants as faults
 use Rattle.model.specs.declared.FirstFault.{FirstFault}

@@ -19,7 +19,7 @@ use Rattle.model.specs.Answers.{fault_number}
 use Rattle.model.specs.Limits.{record_limits}
 use Rattle.model.specs.Packets.{arrivals_from}
 use Rattle.model.specs.Record.{Row, Lists, rows_of, fate_number}
-use Rattle.model.specs.Rules.{Verdict, Buffer, clear, count_of, is_held_at, held_after, not_after_last, by_wrong, over_room, or_else, verdict_if, fault_at, fate_outside, first_fault_from, buffer_of}
+use Rattle.model.specs.Rules.{Verdict, clear, count_of, is_held_at, held_after, not_after_last, by_wrong, over_room, or_else, verdict_if, fault_at, fate_outside, first_fault_from, buffer_of}
 use Rattle.model.specs.Totals.{most_held_from}
 use Rattle.model.specs.Refusals.{value_ok}
 use Rattle.laws.specs.Accepted.{Accepted}

@@ -10,7 +10,7 @@ use lib.Seq.{get_or-set_same, get_or-set_other, ext_get_or}
 use lib.Dec.{eqb}
 use Rattle.model.specs.declared.Fate.TheVariants.{Sent}
 use Rattle.model.specs.Packets.{Arrival, place_of, arrivals_from, arrivals}
-use Rattle.model.specs.Record.{fate_number, Entry, Lists, enter, entered, blank, record_of, Row, rows_of, rows}
+use Rattle.model.specs.Record.{fate_number, Entry, Lists, enter, entered, blank, record_of, Row, rows_of}
 use Rattle.laws.specs.Times.{times, times_entered}
 use Rattle.laws.specs.Recorded.{Sized, recorded}
 use Rattle.laws.proofs.Cases.{eqb_cases}

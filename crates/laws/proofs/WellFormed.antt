@@ -12,7 +12,7 @@ use Rattle.model.specs.declared.Fate.TheVariants.{Sent, Rejected, PushedOut, Pre
 use Rattle.model.specs.declared.Slot.{Slot}
 use Rattle.model.specs.Limits.{within}
 use Rattle.model.specs.Packets.{Arrival, arrivals_from, arrivals}
-use Rattle.model.specs.Record.{fate_number, Entry, entered, blank, Row}
+use Rattle.model.specs.Record.{fate_number, Entry, blank, Row}
 use Rattle.model.specs.Rules.{has_fate, count_of}
 use Rattle.model.specs.Totals.{value_of}
 use Rattle.model.specs.Course.{Policy, course, first}

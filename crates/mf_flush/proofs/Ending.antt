@@ -6,7 +6,6 @@ use native.Mathlib.Numerals.{add-one}
 use native.Mathlib.Omega.{arith}
 use lib.ListN.{length}
 use Rattle.model.specs.declared.Packet.{Packet}
-use Rattle.model.specs.declared.Fate.TheVariants as fates
 use Rattle.model.specs.Packets.{slots_until}
 use Rattle.model.specs.Record.{Lists, entered}
 use Rattle.model.specs.Course.{Step, Policy, and_then, unless_held, slot_ends}

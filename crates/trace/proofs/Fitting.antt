@@ -1,7 +1,7 @@
 -- A trace of which no packet fails a test is not refused, and how one more packet joins those that passed.
 use Prim.Native.Nat.{ℕ, suc, ◌+◌, ◌<◌, suc-le-suc}
 use mathlib.Core.Path.{◌≡◌, refl, sym, ◌∙◌}
-use mathlib.Core.Bool.{Bool, true, false, not, ◌||◌}
+use mathlib.Core.Bool.{Bool, true, false, ◌||◌}
 use mathlib.Core.List.{List, [], ◌∷◌}
 use lib.ListN.{length, get_or}
 use lib.Dec.{ltb}

@@ -16,7 +16,7 @@ use Rattle.model.specs.Answers.{cause_number}
 use Rattle.model.specs.Packets.{arrivals_from}
 use Rattle.model.specs.Rules.{Verdict, clear, or_else}
 use Rattle.model.specs.Limits.{record_limits}
-use Rattle.model.specs.Refusals.{unless, room_ok, slot_ok, value_ok, packet_refusal, packet_refusal_from, trace_refusal}
+use Rattle.model.specs.Refusals.{room_ok, slot_ok, value_ok, packet_refusal, packet_refusal_from, trace_refusal}
 use Rattle.trace.specs.declared.Values.{Values}
 use Rattle.trace.specs.declared.Values.TheVariants.{InRange, LoOrHi}
 use Rattle.model.specs.Record.{Lists}

@@ -1,7 +1,6 @@
 -- `audit::audit` meets its contract: a refused trace is refused as `plain_refusal` says; of an accepted one the sweep says the first fault, or that there is
 -- none, and then the totals are counted.
-use mathlib.Core.Path.{◌≡◌, sym, ap, subst, ◌∙◌}
-use borrow.Author.Rules.{rules}
+use mathlib.Core.Path.{sym, ap, subst, ◌∙◌}
 use Rattle.audit.specs.Sweep.{SweptAs}
 use Rattle.model.specs.Refusals.{plain_refusal, value_ok}
 use Rattle.trace.specs.Checked.{verdict_of}
@@ -11,7 +10,7 @@ use Rattle.audit.proofs.Answer.{countable, totals_are, on_refused, on_faulty, on
 use Rattle.model.specs.Packets.{arrivals}
 use Rattle.laws.specs.Accepted.{Accepted}
 use Rattle.laws.proofs.Accepted.{accepted}
-use Rattle.model.specs.Record.{lists_of, Lists, rows}
+use Rattle.model.specs.Record.{lists_of, rows}
 use Rattle.audit.proofs.audit.Goals as goal
 
 pub returns-in-Refused : goal.returns-in-Refused

@@ -1,5 +1,4 @@
 -- `audit::fate_of` meets its contract: in each arm the number is known, and in the last it is none of 1 to 5.
-use borrow.Author.Rules.{rules}
 use Rattle.audit.proofs.Fates.{outside}
 use Rattle.audit.proofs.fate_of.Goals as goal
 

@@ -3,7 +3,6 @@ use Prim.Native.Nat.{◌-◌}
 use native.Mathlib.Omega.{arith}
 use borrow.Author.Tests.{leb-true}
 use Rattle.audit.proofs.UpTo.{reaches}
-use borrow.Author.Rules.{rules}
 use Rattle.audit.proofs.front.Goals as goal
 
 pub returns-then-slots-near : goal.returns-then-slots-near

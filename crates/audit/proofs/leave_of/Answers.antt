@@ -1,5 +1,4 @@
 -- `audit::leave_of` meets its contract: in each arm the fate is known, and `leave_of` is that fate's case.
-use borrow.Author.Rules.{rules}
 use native.Mathlib.Omega.{arith}
 use mathlib.Core.Path.{sym, ap, ◌∙◌}
 use Rattle.audit_faults.specs.Faults.{row_of}

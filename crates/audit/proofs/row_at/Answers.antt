@@ -1,5 +1,4 @@
 -- `audit::row_at` meets its contract: the fate that was read is the number of a fate, or none, and the other fields are those of the row.
-use borrow.Author.Rules.{rules}
 use mathlib.Core.Bool.{false}
 use native.Mathlib.Numerals.{add-one}
 use mathlib.Core.Path.{◌≡◌, subst}

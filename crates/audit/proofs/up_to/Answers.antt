@@ -1,9 +1,8 @@
 -- `audit::up_to` meets its contract. The loop's invariant: low and high bracket the end of the front. The slots never go down, so the one in between settles
 -- all on one side of it, wherever it stands; the measure is what lies between the two.
-use Prim.Native.Nat.{◌+◌, ◌-◌}
+use Prim.Native.Nat.{◌+◌}
 use native.Mathlib.Omega.{arith}
-use borrow.Author.Rules.{rules}
-use Rattle.audit.proofs.UpTo.{Bracket, bracket_start, bracket_up, bracket_down, met}
+use Rattle.audit.proofs.UpTo.{bracket_start, bracket_up, bracket_down, met}
 use Rattle.audit.proofs.up_to.Goals as goal
 
 pub loop-low-init : goal.loop-low-init

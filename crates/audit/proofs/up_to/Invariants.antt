@@ -1,9 +1,7 @@
 -- `audit::up_to` meets its contract. The loop's invariant: low and high bracket the end of the front. The slots never go down, so the one in between settles
 -- all on one side of it, wherever it stands; the measure is what lies between the two.
-use Prim.Native.Nat.{◌+◌, ◌-◌}
-use native.Mathlib.Omega.{arith}
-use borrow.Author.Rules.{rules}
-use Rattle.audit.proofs.UpTo.{Bracket, bracket_start, bracket_up, bracket_down, met}
+use Prim.Native.Nat.{◌-◌}
+use Rattle.audit.proofs.UpTo.{Bracket}
 use Rattle.audit.proofs.up_to.Given as goal
 
 abbrev pub invariant-loop-low : goal.invariant-loop-low

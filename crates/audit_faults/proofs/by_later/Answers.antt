@@ -1,7 +1,6 @@
 -- `audit_faults::by_later` meets its contract: the first test decides the first half of `within`, and the second test is its second half.
 use borrow.Author.Tests.{le-leb, lt-leb}
 use Prim.Native.Nat.{suc}
-use borrow.Author.Rules.{rules}
 use native.Mathlib.Omega.{arith}
 use Rattle.model.specs.Limits.{within}
 use Rattle.audit_faults.proofs.by_later.Goals as goal

@@ -1,5 +1,4 @@
 -- `audit_faults::by_wrong` meets its contract: in each arm the fate is known, and `by_wrong` is that fate's test.
-use borrow.Author.Rules.{rules}
 use mathlib.Core.Path.{sym, ap, ◌∙◌}
 use mathlib.Core.Bool.{not}
 use Rattle.audit_faults.proofs.Fates.{by_test}

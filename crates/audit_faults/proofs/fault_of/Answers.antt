@@ -1,5 +1,4 @@
 -- `audit_faults::fault_of` meets its contract: the first test that holds is the first of `row_fault`.
-use borrow.Author.Rules.{rules}
 use Rattle.model.specs.Rules.{or_else}
 use Rattle.audit_faults.proofs.fault_of.Goals as goal
 

@@ -1,5 +1,4 @@
 -- `audit_faults::is_sent` meets its contract: the two numbers compared are the fate's own and that of sent.
-use borrow.Author.Rules.{rules}
 use Rattle.model.specs.Rules.{has_fate}
 use Rattle.audit_faults.proofs.is_sent.Goals as goal
 

@@ -1,5 +1,4 @@
 -- `audit_faults::last_of` meets its contract: `last_of` goes by the same test.
-use borrow.Author.Rules.{rules}
 use Rattle.audit_faults.specs.Faults.{last_of}
 use Rattle.audit_faults.proofs.last_of.Goals as goal
 

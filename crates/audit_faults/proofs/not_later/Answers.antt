@@ -1,5 +1,4 @@
 -- `audit_faults::not_later` meets its contract: `not_after` goes by the same test.
-use borrow.Author.Rules.{rules}
 use borrow.Author.Tests.{not-true, not-false}
 use Rattle.audit_faults.specs.Faults.{not_after}
 use Rattle.audit_faults.proofs.not_later.Goals as goal

@@ -1,5 +1,4 @@
 -- `audit_faults::when_wrong` meets its contract: in each arm the fate is known, and `when_wrong` is that fate's test.
-use borrow.Author.Rules.{rules}
 use lib.Dec.{ltb, eqb}
 use mathlib.Core.Path.{sym, ap, ◌∙◌}
 use mathlib.Core.Bool.{not}

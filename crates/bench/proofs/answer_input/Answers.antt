@@ -3,7 +3,6 @@ use mathlib.Core.Path.{refl}
 use native.Mathlib.Omega.{arith}
 use Rattle.input.proofs.Reading.{too_long}
 use Rattle.bench.proofs.Reading.{read_by, answered}
-use borrow.Author.Rules.{rules}
 use Rattle.bench.proofs.answer_input.Goals as goal
 
 -- LOST slice-aggregate-read-rows-2 : tie.Need-slice-aggregate-read-rows-2

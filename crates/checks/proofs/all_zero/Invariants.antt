@@ -1,12 +1,10 @@
 -- `checks::all_zero` meets its contract: nothing bad was found and what is left passes exactly where the whole list does.
 use Prim.Native.Nat.{◌≤◌, ◌-◌}
-use mathlib.Core.Path.{◌≡◌, refl, ◌∙◌}
+use mathlib.Core.Path.{◌≡◌}
 use mathlib.Core.Bool.{not, ◌&&◌}
-use native.Mathlib.Omega.{arith}
 use lib.ListN.{length, drop}
 use lib.Dec.{eqb}
 use Rattle.model.specs.Port.{all}
-use Rattle.checks.proofs.Tests.{all_turn, all_done}
 use Rattle.checks.proofs.all_zero.Given as goal
 
 abbrev pub invariant-loop-i : goal.invariant-loop-i

@@ -1,10 +1,6 @@
 -- `checks::numbers_rise` meets its contract: nothing bad was found and what is left rises from the number before exactly where all rise from 0.
-use Prim.Native.Nat.{◌≤◌, ◌-◌}
-use mathlib.Core.Path.{◌≡◌, refl, ◌∙◌}
-use mathlib.Core.Bool.{not, ◌&&◌}
+use mathlib.Core.Path.{refl, ◌∙◌}
 use native.Mathlib.Omega.{arith}
-use lib.ListN.{length, drop}
-use Rattle.model.specs.Port.{rises_from}
 use Rattle.checks.proofs.Tests.{rises_turn, rises_done}
 use Rattle.checks.proofs.numbers_rise.Goals as goal
 

@@ -1,14 +1,10 @@
 -- `checks::values_ok` meets its contract: nothing bad was found and what is left passes exactly where the whole list does.
 use Prim.Native.Nat.{◌≤◌, ◌-◌}
-use mathlib.Core.Path.{◌≡◌, refl, ap, ◌∙◌}
-use mathlib.Core.Bool.{Bool, not, ◌&&◌, ◌||◌}
-use native.Mathlib.Omega.{arith}
-use borrow.Author.Rules.{rules}
+use mathlib.Core.Path.{◌≡◌}
+use mathlib.Core.Bool.{not, ◌&&◌}
 use lib.ListN.{length, drop}
 use Rattle.model.specs.Refusals.{value_ok}
 use Rattle.model.specs.Port.{all}
-use Rattle.checks.proofs.Tests.{all_turn, all_done}
-use Prim.Native.Nat.{◌+◌}
 use Rattle.checks.proofs.values_ok.Given as goal
 
 abbrev pub invariant-loop-i : goal.invariant-loop-i

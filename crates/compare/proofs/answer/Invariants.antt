@@ -1,5 +1,4 @@
 -- `compare::answer` is safe and ends: nothing has to hold from turn to turn, and 50 - i falls.
-use borrow.Author.Rules.{rules}
 use Prim.Native.Nat.{◌-◌}
 use Rattle.compare.proofs.answer.Given as goal
 

@@ -1,5 +1,4 @@
 -- `compare::main` is safe and ends: nothing has to hold from turn to turn, and 400 - batch falls.
-use borrow.Author.Rules.{rules}
 use Prim.Native.Nat.{◌-◌}
 use Rattle.compare.proofs.main.Given as goal
 

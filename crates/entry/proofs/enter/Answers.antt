@@ -1,5 +1,4 @@
 -- Three writes, one in each list, at the place of one number.
-use borrow.Author.Rules.{rules}
 use Rattle.entry.proofs.enter.Goals as goal
 
 pub returns : goal.returns

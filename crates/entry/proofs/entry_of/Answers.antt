@@ -6,7 +6,6 @@ use mathlib.Core.List.{List, [], ◌∷◌}
 use native.Mathlib.Omega.{arith}
 use lib.ListN.{length, get_or}
 use Rattle.model.specs.Packets.{place_of}
-use borrow.Author.Rules.{rules}
 use Rattle.entry.proofs.entry_of.Goals as goal
 
 past_end : (list : List ℕ) (place : ℕ) → length list ≤ place → get_or list place 0 ≡ 0

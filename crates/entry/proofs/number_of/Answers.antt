@@ -1,7 +1,6 @@
 -- The entry that was read, as a packet number.
 use Prim.Native.Nat.{ℕ}
 use mathlib.Core.Path.{ap}
-use borrow.Author.Rules.{rules}
 use Rattle.model.specs.declared.PacketNumber.{PacketNumber}
 use Rattle.entry.proofs.number_of.Goals as goal
 

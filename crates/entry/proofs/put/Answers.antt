@@ -1,7 +1,6 @@
 -- A place outside the list is not written, and then the list is as it was.
 use mathlib.Core.Path.{sym}
 use lib.Seq.{set_out}
-use borrow.Author.Rules.{rules}
 use Rattle.entry.proofs.put.Goals as goal
 
 pub returns-else-place-list : goal.returns-else-place-list

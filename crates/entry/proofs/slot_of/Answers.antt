@@ -1,7 +1,6 @@
 -- The entry that was read, as a slot.
 use Prim.Native.Nat.{ℕ}
 use mathlib.Core.Path.{ap}
-use borrow.Author.Rules.{rules}
 use Rattle.model.specs.declared.Slot.{Slot}
 use Rattle.entry.proofs.slot_of.Goals as goal
 

@@ -1,6 +1,5 @@
 -- `host::host_audit` meets its contract: what the audit answers is said.
 use Rattle.host.proofs.Saying.{said_of_audit}
-use borrow.Author.Rules.{rules}
 use Rattle.host.proofs.host_audit.Goals as goal
 
 pub returns : goal.returns

@@ -1,6 +1,5 @@
 -- `host::host_mf` meets its contract: what the call answers is said.
 use Rattle.host.proofs.Saying.{said}
-use borrow.Author.Rules.{rules}
 use Rattle.host.proofs.host_mf.Goals as goal
 
 pub returns : goal.returns

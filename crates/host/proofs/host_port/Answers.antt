@@ -1,6 +1,5 @@
 -- `host::host_port` meets its contract: by the making's number, a refusal that is coded, or a port that is fed.
 use Rattle.host.proofs.Hearing.{of_made, of_not_made}
-use borrow.Author.Rules.{rules}
 use Rattle.host.proofs.host_port.Goals as goal
 
 pub returns-then-reply-ne0 : goal.returns-then-reply-ne0

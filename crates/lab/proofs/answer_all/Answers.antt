@@ -4,7 +4,6 @@ use native.Mathlib.Omega.{arith}
 use lib.Seq.{length-take-le}
 use Rattle.lab.proofs.Telling.{told_heard, heard_in}
 use Rattle.lab.proofs.Reading.{told_strange}
-use borrow.Author.Rules.{rules}
 use Rattle.lab.proofs.answer_all.Goals as goal
 
 pub returns-in_default : goal.returns-in_default

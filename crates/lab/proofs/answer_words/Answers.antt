@@ -1,9 +1,6 @@
 -- `lab::answer_words` meets its contract: what was read to the end is answered.
 use mathlib.Core.Path.{refl}
-use mathlib.Core.Logic.{⊎_elim}
-use native.Mathlib.Omega.{arith}
 use Rattle.lab.proofs.Reading.{read_by, read_few, nothing_asked, answered, too_long}
-use borrow.Author.Rules.{rules}
 use Rattle.lab.proofs.answer_words.Goals as goal
 
 pub returns-in-None : goal.returns-in-None

@@ -1,7 +1,6 @@
 -- `lab::main` is safe and ends: what it writes stands in the list that was answered into.
 use mathlib.Core.Path.{sym}
 use lib.Seq.{length-take-le}
-use borrow.Author.Rules.{rules}
 use Rattle.lab.proofs.Telling.{told_inside}
 use Rattle.lab.proofs.main.Goals as goal
 

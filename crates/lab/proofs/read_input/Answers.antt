@@ -1,11 +1,9 @@
 -- `lab::read_input` meets its contract: by the job, in as much of the table as its columns take.
 use mathlib.Core.Path.{sym, ◌∙◌}
-use mathlib.Core.Logic.{⊎_elim}
 use native.Mathlib.Omega.{arith}
 use lib.ListN.{drop}
 use lib.Seq.{length-take-le}
 use Rattle.lab.proofs.Reading.{read_record, read_trace}
-use borrow.Author.Rules.{rules}
 use Rattle.lab.proofs.read_input.Goals as goal
 
 pub returns-in-Audit : goal.returns-in-Audit

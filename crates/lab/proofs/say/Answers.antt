@@ -6,7 +6,6 @@ use Rattle.output.specs.Output.{refusal_text}
 use Rattle.output.proofs.Writing.{wrote_same}
 use Rattle.lab_table.proofs.Tables.{begins}
 use Rattle.lab.proofs.Telling.{few_rows, said_by}
-use borrow.Author.Rules.{rules}
 use Rattle.lab.proofs.say.Goals as goal
 
 pub answer-requires : goal.answer-requires

@@ -1,9 +1,8 @@
 -- `lab::say_words` meets its contract: the numbers behind the room are those of the betas.
-use mathlib.Core.Path.{refl, sym, ap, ◌∙◌}
+use mathlib.Core.Path.{refl, ap, ◌∙◌}
 use native.Mathlib.Omega.{arith}
 use lib.ListN.{length, length-drop}
 use Rattle.lab.proofs.Telling.{behind_none, behind_all, begins_words}
-use borrow.Author.Rules.{rules}
 use Rattle.lab.proofs.say_words.Goals as goal
 
 pub say-requires : goal.say-requires

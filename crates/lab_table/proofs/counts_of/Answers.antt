@@ -1,6 +1,5 @@
 -- `lab_table::counts_of` meets its contract: a count of 32 bits fits in 64.
 use native.Mathlib.Omega.{arith}
-use borrow.Author.Rules.{rules}
 use Rattle.lab_table.proofs.counts_of.Goals as goal
 
 pub overflow_cast-flushed : goal.overflow_cast-flushed

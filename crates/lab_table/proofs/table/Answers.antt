@@ -4,7 +4,6 @@ use mathlib.Core.Path.{sym}
 use native.Mathlib.Omega.{arith}
 use lib.Seq.{length-take-le}
 use Rattle.lab_table.proofs.Spoken.{short_list, other_lengths, many_betas, table_spoken_lem}
-use borrow.Author.Rules.{rules}
 use Rattle.lab_table.proofs.table.Goals as goal
 
 pub returns-then-out-lt-BYTES : goal.returns-then-out-lt-BYTES

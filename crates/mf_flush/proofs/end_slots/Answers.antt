@@ -4,7 +4,6 @@ use borrow.Author.Tests.{not-true, not-false}
 use Rattle.model.specs.Record.{lists_of}
 use Rattle.steps.proofs.Guarding.{lies_within_lem}
 use Rattle.mf_flush.proofs.Leaving.{ends_kept, none_ends}
-use borrow.Author.Rules.{rules}
 use Rattle.mf_flush.proofs.end_slots.Goals as goal
 
 pub returns-then-not-lies_within : goal.returns-then-not-lies_within

@@ -2,7 +2,6 @@
 use mathlib.Core.Path.{refl, sym, ◌∙◌}
 use borrow.Author.Tests.{not-true, not-false}
 use Rattle.steps.proofs.Guarding.{by_pass, by_fail, lies_within_lem}
-use borrow.Author.Rules.{rules}
 use Rattle.mf_marks.proofs.mark.Goals as goal
 
 pub returns-then-not-lies_within : goal.returns-then-not-lies_within

@@ -1,5 +1,4 @@
 -- A packet's mark is its entry in the list of marks.
-use borrow.Author.Rules.{rules}
 use Rattle.mf_marks.proofs.mark_of.Goals as goal
 
 pub returns : goal.returns

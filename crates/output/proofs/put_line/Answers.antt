@@ -1,7 +1,6 @@
 -- `output::put_line` meets its contract: it tests for the places, and then writes.
 use native.Mathlib.Omega.{arith}
 use Rattle.output.proofs.Putting.{put_full, put_fits}
-use borrow.Author.Rules.{rules}
 use Rattle.output.proofs.put_line.Goals as goal
 
 pub returns-then-out-at : goal.returns-then-out-at

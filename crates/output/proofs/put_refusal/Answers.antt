@@ -2,7 +2,6 @@
 use native.Mathlib.Omega.{arith}
 use Rattle.output.proofs.Putting.{put_full, put_fits}
 use Rattle.output.proofs.Writing.{wrote_both}
-use borrow.Author.Rules.{rules}
 use Rattle.output.proofs.put_refusal.Goals as goal
 
 pub returns-then-out-lt-REFUSED : goal.returns-then-out-lt-REFUSED

@@ -3,7 +3,6 @@ use native.Mathlib.Omega.{arith}
 use mathlib.Core.Path.{refl}
 use Rattle.output.proofs.Putting.{put_full, put_fits, values_differ, fates_differ, whens_differ, bys_differ, rows_text_lem}
 use Rattle.output.proofs.Writing.{wrote_same}
-use borrow.Author.Rules.{rules}
 use Rattle.output.proofs.put_rows.Goals as goal
 
 pub returns-then-values-slots : goal.returns-then-values-slots

@@ -1,9 +1,6 @@
 -- The entries before i are 0.
-use borrow.Author.Rules.{rules}
-use Prim.Native.Nat.{◌-◌}
 use mathlib.Core.Path.{refl}
-use lib.ListN.{length}
-use Rattle.plan_kept.proofs.Keeping.{Clearing, clearing_start, clearing_turn, clearing_end}
+use Rattle.plan_kept.proofs.Keeping.{clearing_start, clearing_turn, clearing_end}
 use Rattle.plan_kept.proofs.clear.Goals as goal
 
 pub loop-i-init : goal.loop-i-init

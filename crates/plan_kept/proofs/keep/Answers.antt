@@ -1,5 +1,4 @@
 -- The answer is that of the test; what becomes of `kept` is decided by it and by the test of the length.
-use borrow.Author.Rules.{rules}
 use mathlib.Core.Path.{sym, ap, ◌∙◌}
 use Rattle.model.specs.Record.{lists_of}
 use Rattle.trace.specs.Checked.{verdict_of}

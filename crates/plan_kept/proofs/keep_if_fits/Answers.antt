@@ -1,5 +1,4 @@
 -- A packet that is kept already stays so. Any other is kept where it reaches its end, and the counts on the way are then one more.
-use borrow.Author.Rules.{rules}
 use Prim.Native.Nat.{◌<◌}
 use mathlib.Core.Path.{◌≡◌}
 use native.Mathlib.Omega.{arith}

@@ -1,11 +1,7 @@
 -- What is left of the order, taken in turn from what is kept now, gives what the whole order gives; and the counts are those of what is kept now.
-use borrow.Author.Rules.{rules}
-use Prim.Native.Nat.{◌-◌}
-use mathlib.Core.Path.{◌≡◌, refl, ◌∙◌}
+use mathlib.Core.Path.{refl, ◌∙◌}
 use native.Mathlib.Omega.{arith}
-use lib.ListN.{length}
-use Rattle.plan_kept.specs.Keep.{HeldAs}
-use Rattle.plan_kept.proofs.Keeping.{Turning, turning_start, turning_next, turning_end}
+use Rattle.plan_kept.proofs.Keeping.{turning_start, turning_next, turning_end}
 use Rattle.plan_kept.proofs.keep_in_turn.Goals as goal
 
 pub loop-i-init : goal.loop-i-init

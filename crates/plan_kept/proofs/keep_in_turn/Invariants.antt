@@ -1,11 +1,9 @@
 -- What is left of the order, taken in turn from what is kept now, gives what the whole order gives; and the counts are those of what is kept now.
-use borrow.Author.Rules.{rules}
 use Prim.Native.Nat.{◌-◌}
-use mathlib.Core.Path.{◌≡◌, refl, ◌∙◌}
-use native.Mathlib.Omega.{arith}
+use mathlib.Core.Path.{◌≡◌}
 use lib.ListN.{length}
 use Rattle.plan_kept.specs.Keep.{HeldAs}
-use Rattle.plan_kept.proofs.Keeping.{Turning, turning_start, turning_next, turning_end}
+use Rattle.plan_kept.proofs.Keeping.{Turning}
 use Rattle.plan_kept.proofs.keep_in_turn.Given as goal
 
 abbrev pub invariant-loop-i : goal.invariant-loop-i

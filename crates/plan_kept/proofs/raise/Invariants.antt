@@ -1,10 +1,6 @@
 -- The counts from the place up to i are one more.
-use borrow.Author.Rules.{rules}
 use Prim.Native.Nat.{◌-◌, ◌≤◌}
-use mathlib.Core.Path.{◌≡◌}
-use native.Mathlib.Omega.{arith}
 use Rattle.plan_kept.specs.Keep.{Raised}
-use Rattle.plan_kept.proofs.Keeping.{raised_start, raised_turn, raised_low}
 use Rattle.plan_kept.proofs.raise.Given as goal
 
 abbrev pub invariant-loop-i : goal.invariant-loop-i

@@ -1,9 +1,7 @@
 -- While the loop goes on, one packet more is still there, and there was room for it at each arrival before.
-use borrow.Author.Rules.{rules}
 use Prim.Native.Nat.{◌-◌}
-use native.Mathlib.Omega.{arith}
 use lib.ListN.{length}
-use Rattle.plan_kept.proofs.Keeping.{Reaching, reaching_start, reaching_full, reaching_turn, reaching_end}
+use Rattle.plan_kept.proofs.Keeping.{Reaching}
 use Rattle.plan_kept.proofs.reach.Given as goal
 
 abbrev pub invariant-loop-i : goal.invariant-loop-i

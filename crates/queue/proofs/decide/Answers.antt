@@ -3,7 +3,6 @@ use mathlib.Core.Path.{◌∙◌, sym, ap}
 use Rattle.model.specs.declared.Rule.{Rule}
 use Rattle.queue.specs.Choose.{choose, of_choice}
 use Rattle.queue.proofs.Choose.{plain}
-use borrow.Author.Rules.{rules}
 use Rattle.queue.proofs.decide.Goals as goal
 
 pub returns-in-Greedy : goal.returns-in-Greedy

@@ -2,7 +2,6 @@
 use mathlib.Core.Path.{◌∙◌}
 use native.Mathlib.Omega.{arith}
 use Rattle.queue.proofs.Choose.{greedy_holds, greedy_overflows}
-use borrow.Author.Rules.{rules}
 use Rattle.queue.proofs.decide_greedy.Goals as goal
 
 pub returns-then-room-values : goal.returns-then-room-values

@@ -6,7 +6,6 @@ use Rattle.model.specs.declared.LossKind.TheVariants.{Preempted}
 use Rattle.queue.specs.declared.Choice.TheVariants.{Lose}
 use Rattle.queue.proofs.Search.{product_fits}
 use Rattle.queue.proofs.Choose.{greedy_holds, greedy_overflows, not_preempted, preempts, lowest_stays, lowest_goes}
-use borrow.Author.Rules.{rules}
 use Rattle.queue.proofs.decide_pg.Goals as goal
 
 pub returns-then-values-eq0 : goal.returns-then-values-eq0

@@ -1,11 +1,8 @@
 -- The invariant: the lowest so far and the lowest of the rest are together the lowest of all. The places left are the measure.
 use Prim.Native.Nat.{min, ◌≤◌, ◌-◌}
 use mathlib.Core.Path.{◌≡◌}
-use native.Mathlib.Omega.{arith}
-use mathlib.Core.Logic.{⊎_elim}
 use lib.ListN.{length, drop}
 use Rattle.queue.specs.Choose.{lowest_of}
-use Rattle.queue.proofs.Search.{lowest_fits, lowest_done, lowest_turn}
 use Rattle.queue.proofs.lowest.Given as goal
 
 abbrev pub invariant-loop-i : goal.invariant-loop-i

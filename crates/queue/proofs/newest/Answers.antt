@@ -1,8 +1,8 @@
 -- The invariant: no place from i on has the value. The search goes down, so i is the measure.
-use Prim.Native.Nat.{◌≤◌, ◌-◌}
+use Prim.Native.Nat.{◌-◌}
 use native.Mathlib.Omega.{arith}
 use lib.ListN.{length}
-use Rattle.queue.proofs.Search.{NoneFrom, none_past_end, newest_here, none_here, none_at_all}
+use Rattle.queue.proofs.Search.{none_past_end, newest_here, none_here, none_at_all}
 use Rattle.queue.proofs.newest.Goals as goal
 
 pub loop-i-init : goal.loop-i-init

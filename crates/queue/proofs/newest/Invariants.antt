@@ -1,8 +1,7 @@
 -- The invariant: no place from i on has the value. The search goes down, so i is the measure.
-use Prim.Native.Nat.{◌≤◌, ◌-◌}
-use native.Mathlib.Omega.{arith}
+use Prim.Native.Nat.{◌≤◌}
 use lib.ListN.{length}
-use Rattle.queue.proofs.Search.{NoneFrom, none_past_end, newest_here, none_here, none_at_all}
+use Rattle.queue.proofs.Search.{NoneFrom}
 use Rattle.queue.proofs.newest.Given as goal
 
 abbrev pub invariant-loop-i : goal.invariant-loop-i

@@ -1,7 +1,6 @@
 -- An arrival of at most the lowest held value is the loser itself; above it, the newest of the lowest is.
 use native.Mathlib.Omega.{arith}
 use Rattle.queue.proofs.Choose.{overflow_rejects, overflow_pushes}
-use borrow.Author.Rules.{rules}
 use Rattle.queue.proofs.overflow.Goals as goal
 
 pub returns-then-arrival-low : goal.returns-then-arrival-low

@@ -1,10 +1,8 @@
 -- The invariant: no packet before place i qualifies, so the first that does is to be found from there on. The places left are the measure.
 use Prim.Native.Nat.{◌+◌, ◌*◌, ◌≤◌, ◌-◌}
 use mathlib.Core.Path.{◌≡◌}
-use native.Mathlib.Omega.{arith}
 use lib.ListN.{length, drop}
 use Rattle.model.specs.Policies.PG.{preempted_at}
-use Rattle.queue.proofs.Search.{preempted_here, preempted_turn, preempted_none, product_fits}
 use Rattle.queue.proofs.preempted.Given as goal
 
 abbrev pub invariant-loop-i : goal.invariant-loop-i

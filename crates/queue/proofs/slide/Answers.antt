@@ -1,10 +1,10 @@
 -- The invariant: the first i entries are moved, all others are as before. Each turn moves one more, so those left are the measure.
-use Prim.Native.Nat.{ℕ, ◌≤◌, ◌-◌}
+use Prim.Native.Nat.{ℕ, ◌-◌}
 use mathlib.Core.Path.{◌≡◌, refl, sym, ap, ◌∙◌}
 use native.Mathlib.Omega.{arith}
-use lib.ListN.{length, drop, length-set}
+use lib.ListN.{drop, length-set}
 use lib.Seq.{paste}
-use Rattle.queue.proofs.Moving.{Moved, moved_none, moved_more, slid_moved, slid_up, slid_back, slid_past}
+use Rattle.queue.proofs.Moving.{moved_none, moved_more, slid_moved, slid_up, slid_back, slid_past}
 use Rattle.queue.proofs.slide.Goals as goal
 
 pub returns-then-from-to : goal.returns-then-from-to

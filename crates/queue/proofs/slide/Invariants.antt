@@ -1,10 +1,8 @@
 -- The invariant: the first i entries are moved, all others are as before. Each turn moves one more, so those left are the measure.
-use Prim.Native.Nat.{ℕ, ◌≤◌, ◌-◌}
-use mathlib.Core.Path.{◌≡◌, refl, sym, ap, ◌∙◌}
-use native.Mathlib.Omega.{arith}
-use lib.ListN.{length, drop, length-set}
-use lib.Seq.{paste}
-use Rattle.queue.proofs.Moving.{Moved, moved_none, moved_more, slid_moved, slid_up, slid_back, slid_past}
+use Prim.Native.Nat.{◌≤◌, ◌-◌}
+use mathlib.Core.Path.{◌≡◌}
+use lib.ListN.{length}
+use Rattle.queue.proofs.Moving.{Moved}
 use Rattle.queue.proofs.slide.Given as goal
 
 abbrev pub invariant-loop-i : goal.invariant-loop-i

@@ -3,7 +3,6 @@ use mathlib.Core.Path.{refl, ap, ◌∙◌}
 use Rattle.model.specs.Numbers.{fate_number}
 use Rattle.model.specs.Answers.{of_arrival}
 use Rattle.replies.proofs.Replies.{by_case, same_said}
-use borrow.Author.Rules.{rules}
 use Rattle.replies.proofs.of_arrival.Goals as goal
 
 pub returns-in-Held : goal.returns-in-Held

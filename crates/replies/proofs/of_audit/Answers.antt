@@ -2,7 +2,6 @@
 use mathlib.Core.Path.{refl}
 use Rattle.model.specs.Answers.{of_audit}
 use Rattle.replies.proofs.Replies.{by_case, fault_numbers}
-use borrow.Author.Rules.{rules}
 use Rattle.replies.proofs.of_audit.Goals as goal
 
 pub returns-in-Passed : goal.returns-in-Passed

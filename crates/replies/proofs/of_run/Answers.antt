@@ -2,7 +2,6 @@
 use mathlib.Core.Path.{refl}
 use Rattle.model.specs.Answers.{of_run}
 use Rattle.replies.proofs.Replies.{by_case}
-use borrow.Author.Rules.{rules}
 use Rattle.replies.proofs.of_run.Goals as goal
 
 pub returns-in-Ran : goal.returns-in-Ran

@@ -2,7 +2,6 @@
 use mathlib.Core.Path.{refl}
 use Rattle.model.specs.Answers.{of_slot}
 use Rattle.replies.proofs.Replies.{by_case, same_said}
-use borrow.Author.Rules.{rules}
 use Rattle.replies.proofs.of_slot.Goals as goal
 
 pub returns-in-Sent : goal.returns-in-Sent

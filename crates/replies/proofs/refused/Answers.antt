@@ -1,6 +1,5 @@
 -- The refusal's numbers, and no totals.
 use Rattle.replies.proofs.Replies.{refused_numbers}
-use borrow.Author.Rules.{rules}
 use Rattle.replies.proofs.refused.Goals as goal
 
 pub returns : goal.returns

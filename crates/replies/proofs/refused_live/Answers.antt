@@ -1,6 +1,5 @@
 -- The refusal's numbers, and no packet.
 use Rattle.replies.proofs.Replies.{live_refused_numbers}
-use borrow.Author.Rules.{rules}
 use Rattle.replies.proofs.refused_live.Goals as goal
 
 pub returns : goal.returns

@@ -1,6 +1,5 @@
 -- `runs::call` meets its contract: each case is the call of its policy.
 use Rattle.runs.proofs.Calls.{called}
-use borrow.Author.Rules.{rules}
 use Rattle.runs.proofs.call.Goals as goal
 
 pub returns-in-Greedy : goal.returns-in-Greedy

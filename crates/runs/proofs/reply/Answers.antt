@@ -2,7 +2,6 @@
 use mathlib.Core.Path.{sym, ◌∙◌}
 use Rattle.runs.proofs.Calls.{zeros_length}
 use Rattle.runs.proofs.Calls.{replied, over}
-use borrow.Author.Rules.{rules}
 use Rattle.runs.proofs.reply.Goals as goal
 
 pub returns-then-n-gt-PACKETS : goal.returns-then-n-gt-PACKETS

@@ -1,6 +1,5 @@
 -- `runs::too_many_lem` meets its contract: by whether there are as many values.
 use Rattle.runs.proofs.Calls.{lengths_differ, lengths_same}
-use borrow.Author.Rules.{rules}
 use Rattle.runs.proofs.too_many.Goals as goal
 
 pub returns-then-values-packets : goal.returns-then-values-packets

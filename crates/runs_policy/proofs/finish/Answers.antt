@@ -4,7 +4,6 @@ use Rattle.model.specs.Record.{lists_of}
 use Rattle.steps.proofs.Answering.{finished}
 use Rattle.mf_marks.specs.Mark.{beside}
 use Rattle.runs_policy.specs.Policy.{policy_by}
-use borrow.Author.Rules.{rules}
 use Rattle.runs_policy.proofs.finish.Goals as goal
 
 pub returns : goal.returns

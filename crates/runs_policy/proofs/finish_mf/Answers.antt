@@ -2,7 +2,6 @@
 use mathlib.Core.Path.{sym, ap, subst, ◌∙◌}
 use mathlib.Core.List.{[]}
 use lib.ListN.{length}
-use lib.Seq.{length-take-le}
 use Rattle.model.specs.Packets.{arrivals}
 use Rattle.model.specs.Limits.{record_limits}
 use Rattle.model.specs.Record.{lists_of}
@@ -12,7 +11,6 @@ use Rattle.model.specs.Policies.MF.{Marked, mf_policy}
 use Rattle.steps.specs.Calls.{Ready}
 use Rattle.steps.proofs.Places.{first_zeros}
 use Rattle.mf_marks.specs.Mark.{beside}
-use borrow.Author.Rules.{rules}
 use Rattle.runs_policy.proofs.finish_mf.Goals as goal
 
 pub finish-requires : goal.finish-requires

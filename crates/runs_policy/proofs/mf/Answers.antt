@@ -4,7 +4,6 @@ use Rattle.model.specs.Calls.{mf_call}
 use Rattle.trace.specs.Checked.{verdict_of}
 use Rattle.steps.proofs.Answering.{refused, not_refused}
 use Rattle.runs_policy.proofs.Ready.{mf_ready}
-use borrow.Author.Rules.{rules}
 use Rattle.runs_policy.proofs.mf.Goals as goal
 
 pub finish_mf-requires : goal.finish_mf-requires

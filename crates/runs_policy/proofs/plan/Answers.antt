@@ -12,7 +12,6 @@ use Rattle.trace.specs.Checked.{verdict_of}
 use Rattle.steps.proofs.Answering.{refused, not_refused}
 use Rattle.plan_kept.proofs.Planned.{part_fits}
 use Rattle.runs_policy.proofs.Ready.{entry_for_each_lem, plan_runs, plan_course}
-use borrow.Author.Rules.{rules}
 use Rattle.runs_policy.proofs.plan.Goals as goal
 
 pub slice_bounds-keep-end : goal.slice_bounds-keep-end

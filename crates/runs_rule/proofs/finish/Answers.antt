@@ -8,7 +8,6 @@ use Rattle.model.specs.Packets.{arrivals}
 use Rattle.laws.proofs.PG.{rule_run}
 use Rattle.laws.specs.AtOnce.{at_once}
 use Rattle.steps.proofs.Answering.{finished}
-use borrow.Author.Rules.{rules}
 use Rattle.runs_rule.proofs.finish.Goals as goal
 
 pub returns : goal.returns

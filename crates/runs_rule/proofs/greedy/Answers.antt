@@ -4,7 +4,6 @@ use Rattle.model.specs.Calls.{greedy_call}
 use Rattle.trace.specs.Checked.{verdict_of}
 use Rattle.steps.proofs.Answering.{refused, not_refused}
 use Rattle.runs_rule.proofs.Ready.{greedy_ready}
-use borrow.Author.Rules.{rules}
 use Rattle.runs_rule.proofs.greedy.Goals as goal
 
 pub finish-requires : goal.finish-requires

@@ -8,7 +8,6 @@ use Rattle.model.specs.Answers.{of_slot}
 use Rattle.steps.specs.Window.{oldest_of, oldest_says, Oldest}
 use borrow.Author.Tests.{not-true, not-false}
 use Rattle.steps.proofs.Guarding.{by_pass, by_fail, lies_within_lem}
-use borrow.Author.Rules.{rules}
 use Rattle.steps.proofs.oldest.Goals as goal
 
 told : {r : SlotAnswer} (queue : List Packet) → r ≡ oldest_of queue → Oldest queue r

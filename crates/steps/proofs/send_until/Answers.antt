@@ -1,17 +1,13 @@
 -- The test of the window decides what is left. The invariant: the sendings still to come complete what all of them do. Each turn ends one slot, so the slots
 -- left are the measure.
-use Prim.Native.Nat.{◌-◌}
-use mathlib.Core.Path.{◌≡◌, refl, sym, ◌∙◌}
-use mathlib.Core.Logic.{⊎_elim}
+use mathlib.Core.Path.{refl, sym, ◌∙◌}
 use native.Mathlib.Omega.{arith}
-use borrow.Author.Rules.{rules}
 use borrow.Author.Tests.{not-true, not-false}
-use lib.ListN.{length}
 use Rattle.model.specs.Record.{lists_of}
 use Rattle.steps.proofs.Windows.{window}
 use Rattle.steps.proofs.Guarding.{lies_within_lem}
 use Rattle.steps.proofs.Keeping.{sendings_kept, none_sent}
-use Rattle.steps.proofs.Sending.{Left, left_all, left_none, left_idle, left_turn}
+use Rattle.steps.proofs.Sending.{left_all, left_none, left_idle, left_turn}
 use Rattle.steps.proofs.send_until.Goals as goal
 
 pub returns-then-not-lies_within : goal.returns-then-not-lies_within

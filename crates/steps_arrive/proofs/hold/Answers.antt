@@ -2,7 +2,6 @@
 use Rattle.steps.specs.Lent.{lent}
 use Rattle.steps_arrive.proofs.Guarding.{has_place_lem, no_place, place_within, place_free}
 use Rattle.steps_arrive.proofs.Keeping.{held_kept, none_held}
-use borrow.Author.Rules.{rules}
 use Rattle.steps_arrive.proofs.hold.Goals as goal
 
 pub returns-then-not-has_place : goal.returns-then-not-has_place

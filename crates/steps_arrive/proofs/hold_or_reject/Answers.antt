@@ -1,5 +1,4 @@
 -- The test of the window decides what is left; where it passes, the bool decides which of two choices it is.
-use mathlib.Core.Path.{sym}
 use Rattle.model.specs.Course.{held_if}
 use Rattle.model.specs.Record.{lists_of}
 use Rattle.steps.specs.Step.{arrival}
@@ -7,7 +6,6 @@ use Rattle.steps.specs.Lent.{lent, moved}
 use Rattle.steps_arrive.proofs.Guarding.{has_place_lem, no_place, place_within, place_free}
 use Rattle.steps_arrive.proofs.Deciding.{held_in_lem, rejected_in}
 use Rattle.steps_arrive.proofs.Keeping.{arrival_kept, none_arrives}
-use borrow.Author.Rules.{rules}
 use Rattle.steps_arrive.proofs.hold_or_reject.Goals as goal
 
 pub returns-then-not-has_place : goal.returns-then-not-has_place

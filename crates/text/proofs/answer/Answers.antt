@@ -1,13 +1,11 @@
 -- `text::answer` meets its contract: by the two lengths, and by what was read.
-use Prim.Native.Nat.{ℕ, ◌+◌, ◌-◌}
-use mathlib.Core.Path.{◌≡◌, refl, sym, ap, ◌∙◌}
+use Prim.Native.Nat.{ℕ}
+use mathlib.Core.Path.{refl, sym, ap}
 use native.Mathlib.Omega.{arith}
-use lib.ListN.{length, take, drop, length-drop}
 use lib.Seq.{length-take-le}
 use Rattle.output.specs.Output.{refusal_text}
 use Rattle.output.proofs.Writing.{wrote_same}
 use Rattle.text.proofs.Saying.{answered_none, answered, short_table, short_out, says_by, says_many, says_trace, trace_spoken}
-use borrow.Author.Rules.{rules}
 use Rattle.text.proofs.answer.Goals as goal
 
 pub returns-then-table-ne-TABLE : goal.returns-then-table-ne-TABLE

@@ -5,7 +5,6 @@ use native.Mathlib.Omega.{arith}
 use Rattle.runs.proofs.Calls.{zeros_length}
 use Rattle.output.proofs.Writing.{wrote_same}
 use Rattle.text.proofs.Policies.{blank_said, over_said, spoken_none, spoken_all}
-use borrow.Author.Rules.{rules}
 use Rattle.text.proofs.run.Goals as goal
 
 pub returns-then-out-lt-OUTPUT : goal.returns-then-out-lt-OUTPUT

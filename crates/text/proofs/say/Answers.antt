@@ -5,7 +5,6 @@ use native.Mathlib.Omega.{arith}
 use Rattle.output.proofs.Putting.{same_kept, put_rows_behind}
 use Rattle.output.proofs.Writing.{wrote_same}
 use Rattle.text.proofs.Policies.{call_refused, call_ran, call_same}
-use borrow.Author.Rules.{rules}
 use Rattle.text.proofs.say.Goals as goal
 
 pub shape_of-fates-then-reply-ne0 : goal.shape_of-fates-then-reply-ne0

@@ -1,9 +1,6 @@
 -- What is added and what is left come to the sum.
-use Prim.Native.Nat.{◌-◌}
 use native.Mathlib.Omega.{arith}
-use lib.ListN.{length}
-use Rattle.totals.proofs.Counting.{value_le, Added, added_none, added_more, added_all}
-use borrow.Author.Rules.{rules}
+use Rattle.totals.proofs.Counting.{value_le, added_none, added_more, added_all}
 use Rattle.totals.proofs.sum_of.Goals as goal
 
 pub loop-i-init : goal.loop-i-init

@@ -1,9 +1,8 @@
 -- What is counted of the fate and what is left come to what there is.
-use Prim.Native.Nat.{◌-◌, ◌≤◌}
+use Prim.Native.Nat.{◌≤◌}
 use native.Mathlib.Omega.{arith}
-use lib.ListN.{length, get_or}
-use Rattle.totals.proofs.Counting.{value_le, Counted, counted_none, counted_more, counted_all, only_le}
-use borrow.Author.Rules.{rules}
+use lib.ListN.{get_or}
+use Rattle.totals.proofs.Counting.{value_le, counted_none, counted_more, counted_all, only_le}
 use Rattle.totals.proofs.tally_of.Goals as goal
 
 pub loop-i-init : goal.loop-i-init

@@ -1,9 +1,7 @@
 -- What is counted of the fate and what is left come to what there is.
-use Prim.Native.Nat.{◌-◌, ◌≤◌}
-use native.Mathlib.Omega.{arith}
-use lib.ListN.{length, get_or}
-use Rattle.totals.proofs.Counting.{value_le, Counted, counted_none, counted_more, counted_all, only_le}
-use borrow.Author.Rules.{rules}
+use Prim.Native.Nat.{◌-◌}
+use lib.ListN.{length}
+use Rattle.totals.proofs.Counting.{Counted}
 use Rattle.totals.proofs.tally_of.Given as goal
 
 abbrev pub invariant-loop-i : goal.invariant-loop-i

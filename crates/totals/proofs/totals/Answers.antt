@@ -3,7 +3,6 @@ use native.Mathlib.Omega.{arith}
 use lib.ListN.{length}
 use borrow.Author.Tests.{not-true, not-false}
 use Rattle.totals.proofs.Counting.{all_fit, some_bad}
-use borrow.Author.Rules.{rules}
 use Rattle.totals.proofs.totals.Goals as goal
 
 pub returns-then-values-fates : goal.returns-then-values-fates

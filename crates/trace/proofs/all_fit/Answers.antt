@@ -2,7 +2,6 @@
 use mathlib.Core.Path.{sym, ◌∙◌}
 use borrow.Author.Tests.{not-false}
 use Rattle.trace.proofs.Fitting.{plain_clear, no_claim}
-use borrow.Author.Rules.{rules}
 use Rattle.trace.proofs.all_fit.Goals as goal
 
 pub returns-then-not-slots_fit : goal.returns-then-not-slots_fit

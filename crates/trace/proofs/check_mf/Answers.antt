@@ -1,5 +1,4 @@
 -- `trace::check_mf` meets its contract: `mf_refusal` is the order of every call, with lo, hi and r tested as its own and only lo and hi taken.
-use borrow.Author.Rules.{rules}
 use Rattle.model.specs.Refusals.{mf_refusal}
 use Rattle.trace.proofs.check_mf.Goals as goal
 

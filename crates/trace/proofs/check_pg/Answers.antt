@@ -1,5 +1,4 @@
 -- `trace::check_pg` meets its contract: `pg_refusal` is the order of every call, with beta tested as its own.
-use borrow.Author.Rules.{rules}
 use Rattle.model.specs.Refusals.{pg_refusal}
 use Rattle.trace.proofs.check_pg.Goals as goal
 

@@ -1,5 +1,4 @@
 -- `trace::check_plain` meets its contract: `plain_refusal` is the order of every call, with nothing of its own and all values in range taken.
-use borrow.Author.Rules.{rules}
 use Rattle.model.specs.Refusals.{plain_refusal}
 use Rattle.trace.proofs.check_plain.Goals as goal
 

@@ -1,17 +1,12 @@
 -- `trace::in_order` meets its contract: the first test that fails is the first refusal of `trace_refusal`, and where all pass the packets' own is left.
-use mathlib.Core.Path.{◌≡◌, sym, ap, ◌∙◌}
-use borrow.Author.Rules.{rules}
+use mathlib.Core.Path.{sym, ap, ◌∙◌}
 use native.Mathlib.Omega.{arith}
-use borrow.Author.Tests.{not-true, not-false, le-leb, lt-leb}
-use lib.Dec.{leb, eqb}
-use lib.ListN.{length}
-use mathlib.Core.Bool.{true}
-use Rattle.model.specs.Refusals.{room_ok, trace_refusal}
-use Rattle.trace.proofs.Laws.{Order, order, values_length, cause_refuses}
+use borrow.Author.Tests.{le-leb, lt-leb}
+use lib.Dec.{eqb}
+use Rattle.trace.proofs.Laws.{order, values_length, cause_refuses}
 use Rattle.model.specs.Record.{lists_of}
-use Rattle.trace.specs.Checked.{verdict_of, ok_of, lengths_equal}
+use Rattle.trace.specs.Checked.{verdict_of, ok_of}
 use Rattle.model.specs.Rules.{Verdict}
-use Rattle.model.specs.Limits.{record_limits}
 use Rattle.trace.proofs.in_order.Goals as goal
 
 -- the order in which the tests answer; the lengths are equal; there are not too many packets; room is in range

@@ -1,5 +1,4 @@
 -- `trace::marking_ok` meets its contract: at each return the tests that led there decide the parts of `marking_ok`.
-use borrow.Author.Rules.{rules}
 use borrow.Author.Tests.{not-true, not-false, lt-ltb, le-ltb}
 use Rattle.trace.proofs.marking_ok.Goals as goal
 

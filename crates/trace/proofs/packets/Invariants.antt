@@ -1,11 +1,8 @@
 -- `trace::packets` meets its contract. The loop's invariant: what the walk answers from the packet at place i on is what it answers of the whole trace.
-use borrow.Author.Rules.{rules}
-use mathlib.Core.Path.{◌≡◌, refl, sym, ◌∙◌}
-use native.Mathlib.Omega.{arith}
+use mathlib.Core.Path.{◌≡◌}
 use Prim.Native.Nat.{◌≤◌, ◌-◌}
 use lib.ListN.{length}
-use borrow.Author.Tests.{not-true, not-false}
-use Rattle.trace.proofs.Laws.{Turn, turn, rest_from, turn_none}
+use Rattle.trace.proofs.Laws.{rest_from}
 use Rattle.trace.specs.Checked.{ok_of}
 use Rattle.model.specs.Refusals.{packet_refusal}
 use Rattle.trace.proofs.packets.Given as goal

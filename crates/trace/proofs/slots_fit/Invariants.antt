@@ -1,14 +1,10 @@
 -- `trace::slots_fit` meets its contract. The loop's invariant: where nothing bad was found, all that was passed fits.
 use Prim.Native.Nat.{◌≤◌, ◌-◌}
-use mathlib.Core.Path.{◌≡◌, refl}
+use mathlib.Core.Path.{◌≡◌}
 use mathlib.Core.Bool.{false}
 use mathlib.Core.List.{◌∷◌}
-use native.Mathlib.Omega.{arith}
-use native.Mathlib.Numerals.{add-one}
 use lib.ListN.{length, get_or}
-use borrow.Author.Tests.{not-true}
 use Rattle.trace.specs.Fitting.{SlotsFit}
-use Rattle.trace.proofs.Fitting.{slots_more}
 use Rattle.trace.proofs.slots_fit.Given as goal
 
 abbrev pub invariant-loop-i : goal.invariant-loop-i

@@ -1,7 +1,5 @@
 -- `trace::unless` meets its contract: the two branches are the two cases of `unless`.
-use mathlib.Core.Path.{ap, ◌∙◌}
-use borrow.Author.Rules.{rules}
-use borrow.Author.Tests.{not-true, not-false}
+use mathlib.Core.Path.{ap}
 use Rattle.trace.specs.Checked.{verdict_of}
 use Rattle.trace.proofs.unless.Goals as goal
 

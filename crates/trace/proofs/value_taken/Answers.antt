@@ -1,6 +1,5 @@
 -- `trace::value_taken` meets its contract: a value out of range is never taken, and where it is in range the arm of the match says what else is asked.
 use mathlib.Core.Path.{sym, ◌∙◌}
-use borrow.Author.Rules.{rules}
 use borrow.Author.Tests.{not-true, not-false, eq-eqb, ne_eqb}
 use Rattle.trace.proofs.Laws.{refuses}
 use Rattle.trace.proofs.value_taken.Goals as goal

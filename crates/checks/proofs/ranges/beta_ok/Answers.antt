@@ -1,5 +1,4 @@
 -- `checks::ranges::beta_ok` meets its contract: at each return the tests that led there say which part of `beta_ok` is false, or that only the last is left.
-use borrow.Author.Rules.{rules}
 use borrow.Author.Tests.{not-true, not-false}
 use Rattle.checks.proofs.ranges.beta_ok.Goals as goal
 

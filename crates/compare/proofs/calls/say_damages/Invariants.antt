@@ -1,5 +1,4 @@
 -- `compare::calls::say_damages` is safe and ends: nothing has to hold from turn to turn, and 3 - i falls.
-use borrow.Author.Rules.{rules}
 use Prim.Native.Nat.{◌-◌}
 use Rattle.compare.proofs.calls.say_damages.Given as goal
 

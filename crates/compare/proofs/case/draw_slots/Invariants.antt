@@ -1,5 +1,4 @@
 -- `compare::case::draw_slots` is safe and ends: the list keeps its length, and n - i falls.
-use borrow.Author.Rules.{rules}
 use Prim.Native.Nat.{◌-◌}
 use lib.ListN.{length}
 use mathlib.Core.Path.{◌≡◌}

@@ -1,5 +1,4 @@
 -- `compare::damage::damage_some` is safe and ends: the three lists keep their lengths, and times - i falls.
-use borrow.Author.Rules.{rules}
 use Prim.Native.Nat.{◌-◌}
 use lib.ListN.{length}
 use mathlib.Core.Path.{◌≡◌}

@@ -1,5 +1,4 @@
 -- `compare::hand::draw_places` is safe and ends: the two lists keep their lengths, and held - i falls.
-use borrow.Author.Rules.{rules}
 use Prim.Native.Nat.{◌-◌}
 use lib.ListN.{length}
 use mathlib.Core.Path.{◌≡◌}

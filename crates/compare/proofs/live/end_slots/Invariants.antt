@@ -1,5 +1,4 @@
 -- `compare::live::end_slots` is safe and ends: nothing has to hold from turn to turn, and times - i falls.
-use borrow.Author.Rules.{rules}
 use Prim.Native.Nat.{◌-◌}
 use Rattle.compare.proofs.live.end_slots.Given as goal
 

@@ -1,5 +1,4 @@
 -- `compare::live::feed` is safe and ends: nothing has to hold from turn to turn, and n - i falls.
-use borrow.Author.Rules.{rules}
 use Prim.Native.Nat.{◌-◌}
 use Rattle.compare.proofs.live.feed.Given as goal
 

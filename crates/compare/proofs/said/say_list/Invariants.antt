@@ -1,5 +1,4 @@
 -- `compare::said::say_list` is safe and ends: nothing has to hold from turn to turn, and n - i falls.
-use borrow.Author.Rules.{rules}
 use Prim.Native.Nat.{◌-◌}
 use Rattle.compare.proofs.said.say_list.Given as goal
 

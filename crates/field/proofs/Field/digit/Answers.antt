@@ -2,7 +2,6 @@
 use Rattle.field.specs.Reading.{digit_taken}
 use mathlib.Core.Path.{refl}
 use borrow.Author.Tests.{lt-ltb, le-ltb, le-leb, lt-leb}
-use borrow.Author.Rules.{rules}
 use Rattle.field.proofs.Field.digit.Goals as goal
 
 pub returns-then-self-gt0 : goal.returns-then-self-gt0

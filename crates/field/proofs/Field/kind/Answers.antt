@@ -1,7 +1,6 @@
 -- By cases of the stage: an open quote or a bad field holds nothing.
 use Rattle.field.proofs.Fielding.{kind_by_lem}
 use mathlib.Core.Path.{refl}
-use borrow.Author.Rules.{rules}
 use Rattle.field.proofs.Field.kind.Goals as goal
 
 pub returns-in-Fresh : goal.returns-in-Fresh

@@ -1,7 +1,6 @@
 -- By cases of the stage: a quote opens or closes, and every other byte is taken as what the field holds.
 use Rattle.field.proofs.Fielding.{field_by_lem}
 use borrow.Author.Tests.{eq-eqb, ne_eqb}
-use borrow.Author.Rules.{rules}
 use Rattle.field.proofs.Field.step.Goals as goal
 
 pub returns-then-byte-eq-QUOTE : goal.returns-then-byte-eq-QUOTE

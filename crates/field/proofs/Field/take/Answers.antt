@@ -2,7 +2,6 @@
 use Rattle.field.specs.Reading.{taken}
 use borrow.Author.Tests.{le-leb, lt-leb}
 use Rattle.model.specs.Limits.{within}
-use borrow.Author.Rules.{rules}
 use Rattle.field.proofs.Field.take.Goals as goal
 
 pub returns-then-byte-lt-ZERO : goal.returns-then-byte-lt-ZERO

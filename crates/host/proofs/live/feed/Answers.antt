@@ -1,13 +1,8 @@
 -- `host::live::feed` meets its contract. The loop's invariant: what is heard of the events that are left, from the port and the sum so far, is what is heard of
 -- all of them.
-use Prim.Native.Nat.{◌≤◌, ◌<◌, ◌-◌, ◌^◌}
-use mathlib.Core.Path.{◌≡◌, refl, sym, ◌∙◌}
-use mathlib.Core.Logic.{⊎_elim}
+use mathlib.Core.Path.{refl, sym, ◌∙◌}
 use native.Mathlib.Omega.{arith}
-use lib.ListN.{length, drop}
-use borrow.Author.Rules.{rules}
 use Rattle.port.specs.State.{state_of}
-use Rattle.host.specs.Live.{heard}
 use Rattle.host.proofs.Hearing.{mixed_fits, heard_done, heard_end, heard_arrival}
 use Rattle.host.proofs.live.feed.Goals as goal
 use Rattle.host.proofs.live.feed.Goals.{else-event-eq0, then-event-eq0}
@@ -20,13 +15,13 @@ loop-i-preserved c = let loop = c in
     let events = loop.args.events.now in
     let i = loop.loop-i.i in
     elim c.if-event-eq0.branch [
-      then-event-eq0 w ↦ (
+      | then-event-eq0 w ↦ (
         omega arith,
         rw (w.sum-is, w.mix_slot-sum.ensures) (mixed_fits _ _ _ _ _ _),
         rw (w.left-is, w.sum-is)
             (heard_end (state_of loop.loop-i.left) loop.loop-i.sum events i (omega arith) _ w.end_of_slot-end.ensures w.if-event-eq0.true w.mix_slot-sum.ensures loop.loop-i.invariant.2),
       )
-    | else-event-eq0 w ↦ (
+      | else-event-eq0 w ↦ (
         omega arith,
         rw (w.sum-is, w.mix_arrival-sum.ensures) (mixed_fits _ _ _ _ _ _),
         rw (w.left-is, w.sum-is)

@@ -1,14 +1,10 @@
 -- `host::live::feed` meets its contract. The loop's invariant: what is heard of the events that are left, from the port and the sum so far, is what is heard of
 -- all of them.
 use Prim.Native.Nat.{◌≤◌, ◌<◌, ◌-◌, ◌^◌}
-use mathlib.Core.Path.{◌≡◌, refl, sym, ◌∙◌}
-use mathlib.Core.Logic.{⊎_elim}
-use native.Mathlib.Omega.{arith}
+use mathlib.Core.Path.{◌≡◌}
 use lib.ListN.{length, drop}
-use borrow.Author.Rules.{rules}
 use Rattle.port.specs.State.{state_of}
 use Rattle.host.specs.Live.{heard}
-use Rattle.host.proofs.Hearing.{mixed_fits, heard_done, heard_end, heard_arrival}
 use Rattle.host.proofs.live.feed.Given as goal
 
 abbrev pub invariant-loop-i : goal.invariant-loop-i

@@ -1,7 +1,6 @@
 -- The sum is its contract.
 use mathlib.Core.Path.{refl}
 use Rattle.host.specs.Live.{mixed}
-use borrow.Author.Rules.{rules}
 use Rattle.host.proofs.live.mix.Goals as goal
 
 pub returns : goal.returns

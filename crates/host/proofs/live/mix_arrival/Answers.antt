@@ -1,7 +1,6 @@
 -- What the answer says as a reply is mixed in.
 use mathlib.Core.Path.{ap, ◌∙◌}
 use Rattle.host.specs.Live.{mixed_in}
-use borrow.Author.Rules.{rules}
 use Rattle.host.proofs.live.mix_arrival.Goals as goal
 
 pub returns : goal.returns

@@ -1,6 +1,5 @@
 -- By its two tests: 0, below the faults, or from the first on.
 use Rattle.host.proofs.Saying.{gives_zero, gives_none, gives_some}
-use borrow.Author.Rules.{rules}
 use Rattle.host.proofs.said.gives_totals.Goals as goal
 
 pub returns-then-number-eq0 : goal.returns-then-number-eq0

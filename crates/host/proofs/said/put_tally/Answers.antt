@@ -1,5 +1,4 @@
 -- `host::said::put_tally` meets its contract: two numbers are put.
-use borrow.Author.Rules.{rules}
 use Rattle.host.proofs.said.put_tally.Goals as goal
 
 pub returns : goal.returns

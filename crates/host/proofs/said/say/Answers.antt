@@ -2,7 +2,6 @@
 use mathlib.Core.Path.{refl, sym, ◌∙◌}
 use borrow.Author.Tests.{not-true, not-false}
 use Rattle.host.proofs.Saying.{saying, saying_none}
-use borrow.Author.Rules.{rules}
 use Rattle.host.proofs.said.say.Goals as goal
 
 pub returns-then-not-gives_totals : goal.returns-then-not-gives_totals

@@ -1,6 +1,5 @@
 -- What the answer says as a reply is said.
 use Rattle.host.proofs.Saying.{replied}
-use borrow.Author.Rules.{rules}
 use Rattle.host.proofs.said.say_audit.Goals as goal
 
 pub returns : goal.returns

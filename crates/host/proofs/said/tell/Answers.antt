@@ -1,5 +1,4 @@
 -- `host::said::tell` meets its contract: each tally is put in its turn, then the most held.
-use borrow.Author.Rules.{rules}
 use Rattle.host.proofs.said.tell.Goals as goal
 
 pub returns : goal.returns

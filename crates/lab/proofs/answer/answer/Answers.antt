@@ -3,7 +3,6 @@ use mathlib.Core.Path.{sym}
 use native.Mathlib.Omega.{arith}
 use lib.Seq.{length-take-le}
 use Rattle.lab.proofs.Answering.{answer_run, answer_table, answer_audit}
-use borrow.Author.Rules.{rules}
 use Rattle.lab.proofs.answer.answer.Goals as goal
 
 pub slice_bounds-run-end : goal.slice_bounds-run-end

@@ -1,12 +1,9 @@
 -- `lab::arguments::read_words` meets its contract: the words so far are those of the arguments so far.
-use Prim.Native.Nat.{◌-◌, ◌≤◌}
-use mathlib.Core.Path.{◌≡◌, refl, sym, ap, ◌∙◌}
+use mathlib.Core.Path.{sym, ap, ◌∙◌}
 use native.Mathlib.Omega.{arith}
-use lib.ListN.{length, length-set}
+use lib.ListN.{length-set}
 use Rattle.lab_jobs.specs.declared.words.Word.{Word}
-use Rattle.lab.specs.Heard.{Heard}
 use Rattle.lab.proofs.Hearing.{heard_none, heard_more, heard_at}
-use borrow.Author.Rules.{rules}
 use Rattle.lab.proofs.arguments.read_words.Goals as goal
 
 pub returns-in-Err-NotPresent : goal.returns-in-Err-NotPresent

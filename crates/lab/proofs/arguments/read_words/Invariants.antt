@@ -1,12 +1,8 @@
 -- `lab::arguments::read_words` meets its contract: the words so far are those of the arguments so far.
 use Prim.Native.Nat.{◌-◌, ◌≤◌}
-use mathlib.Core.Path.{◌≡◌, refl, sym, ap, ◌∙◌}
-use native.Mathlib.Omega.{arith}
-use lib.ListN.{length, length-set}
-use Rattle.lab_jobs.specs.declared.words.Word.{Word}
+use mathlib.Core.Path.{◌≡◌}
+use lib.ListN.{length}
 use Rattle.lab.specs.Heard.{Heard}
-use Rattle.lab.proofs.Hearing.{heard_none, heard_more, heard_at}
-use borrow.Author.Rules.{rules}
 use Rattle.lab.proofs.arguments.read_words.Given as goal
 
 abbrev pub invariant-loop-i : goal.invariant-loop-i

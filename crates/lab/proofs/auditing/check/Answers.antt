@@ -5,7 +5,6 @@ use native.Mathlib.Omega.{arith}
 use Rattle.output.specs.Output.{refusal_text}
 use Rattle.output.proofs.Writing.{wrote_same}
 use Rattle.lab.proofs.Audits.{audit_malformed, audit_formed}
-use borrow.Author.Rules.{rules}
 use Rattle.lab.proofs.auditing.check.Goals as goal
 
 pub returns-then-line-ne0 : goal.returns-then-line-ne0

@@ -1,10 +1,7 @@
 -- `lab::auditing::misnumbered` meets its contract: the rows that are left tell what all do.
-use Prim.Native.Nat.{◌-◌, ◌≤◌}
 use mathlib.Core.Path.{refl}
 use native.Mathlib.Omega.{arith}
-use lib.ListN.{length}
-use Rattle.lab.proofs.Audits.{Numbered, numbered_turn, numbered_wrong, numbered_all}
-use borrow.Author.Rules.{rules}
+use Rattle.lab.proofs.Audits.{numbered_turn, numbered_wrong, numbered_all}
 use Rattle.lab.proofs.auditing.misnumbered.Goals as goal
 
 pub loop-i-init : goal.loop-i-init

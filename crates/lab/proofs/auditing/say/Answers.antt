@@ -9,7 +9,6 @@ use Rattle.output.proofs.Writing.{wrote_same, wrote_both}
 use Rattle.lab.specs.Audit.{audit_header}
 use Rattle.lab_table.proofs.Chain.{wrote_long}
 use Rattle.lab.proofs.Audits.{verdict_some, verdict_passed}
-use borrow.Author.Rules.{rules}
 use Rattle.lab.proofs.auditing.say.Goals as goal
 
 pub returns-then-reply-ne0 : goal.returns-then-reply-ne0

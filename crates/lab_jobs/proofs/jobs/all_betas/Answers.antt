@@ -1,11 +1,7 @@
 -- `lab_jobs::jobs::all_betas` meets its contract: the words that are left tell what all do.
-use Prim.Native.Nat.{◌-◌, ◌≤◌}
-use mathlib.Core.Path.{◌≡◌, refl}
+use mathlib.Core.Path.{refl}
 use native.Mathlib.Omega.{arith}
-use lib.ListN.{length, drop}
-use Rattle.lab_jobs.specs.Jobs.{all_betas}
 use Rattle.lab_jobs.proofs.Asking.{betas_turn, betas_not, betas_all}
-use borrow.Author.Rules.{rules}
 use Rattle.lab_jobs.proofs.jobs.all_betas.Goals as goal
 
 pub loop-i-init : goal.loop-i-init

@@ -1,11 +1,8 @@
 -- `lab_jobs::jobs::all_betas` meets its contract: the words that are left tell what all do.
 use Prim.Native.Nat.{◌-◌, ◌≤◌}
-use mathlib.Core.Path.{◌≡◌, refl}
-use native.Mathlib.Omega.{arith}
+use mathlib.Core.Path.{◌≡◌}
 use lib.ListN.{length, drop}
 use Rattle.lab_jobs.specs.Jobs.{all_betas}
-use Rattle.lab_jobs.proofs.Asking.{betas_turn, betas_not, betas_all}
-use borrow.Author.Rules.{rules}
 use Rattle.lab_jobs.proofs.jobs.all_betas.Given as goal
 
 abbrev pub invariant-loop-i : goal.invariant-loop-i

@@ -1,7 +1,6 @@
 -- `lab_jobs::jobs::at` meets its contract: behind the last number there is none.
 use mathlib.Core.Path.{sym}
 use lib.ListN.{get_or-eq_default}
-use borrow.Author.Rules.{rules}
 use Rattle.lab_jobs.proofs.jobs.at.Goals as goal
 
 pub returns : goal.returns

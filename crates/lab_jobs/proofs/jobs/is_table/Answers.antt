@@ -3,7 +3,6 @@ use mathlib.Core.Path.{sym}
 use native.Mathlib.Omega.{arith}
 use lib.Seq.{length-take-le}
 use Rattle.lab_jobs.proofs.Asking.{table_short, table_not, table_if}
-use borrow.Author.Rules.{rules}
 use Rattle.lab_jobs.proofs.jobs.is_table.Goals as goal
 
 pub returns-then-words-lt2 : goal.returns-then-words-lt2

@@ -1,7 +1,6 @@
 -- `lab_jobs::jobs::job_from` meets its contract: the tests in order, and the numbers at their places.
 use mathlib.Core.Path.{refl}
 use Rattle.lab_jobs.specs.Jobs.{job_from}
-use borrow.Author.Rules.{rules}
 use Rattle.lab_jobs.proofs.jobs.job_from.Goals as goal
 
 pub returns-then-same : goal.returns-then-same

@@ -3,7 +3,6 @@ use mathlib.Core.Path.{sym}
 use native.Mathlib.Omega.{arith}
 use lib.Seq.{length-take-le}
 use Rattle.lab_jobs.proofs.Wording.{beta_none, beta_first, beta_both, beta_second}
-use borrow.Author.Rules.{rules}
 use Rattle.lab_jobs.proofs.words.beta_in.Goals as goal
 
 pub returns-then-bytes-at : goal.returns-then-bytes-at

@@ -1,7 +1,6 @@
 -- `lab_jobs::words::name_in_lem` meets its contract: the tests in order.
 use mathlib.Core.Path.{refl}
 use Rattle.lab_jobs.specs.Words.{name_in}
-use borrow.Author.Rules.{rules}
 use Rattle.lab_jobs.proofs.words.name_in.Goals as goal
 
 pub returns-then-same : goal.returns-then-same

@@ -1,10 +1,7 @@
 -- `lab_jobs::words::number_in` meets its contract: the number so far, of as many digits as bytes were read, and the bytes that are left.
-use Prim.Native.Nat.{◌-◌, ◌≤◌}
 use mathlib.Core.Path.{refl}
 use native.Mathlib.Omega.{arith}
-use lib.ListN.{length}
-use Rattle.lab_jobs.proofs.Wording.{below, number_none, number_long, below_most, Counted, counted_low, counted_high, counted_turn, counted_all}
-use borrow.Author.Rules.{rules}
+use Rattle.lab_jobs.proofs.Wording.{below, number_none, number_long, below_most, counted_low, counted_high, counted_turn, counted_all}
 use Rattle.lab_jobs.proofs.words.number_in.Goals as goal
 
 pub returns-then-bytes-lt1 : goal.returns-then-bytes-lt1

@@ -1,10 +1,7 @@
 -- `lab_jobs::words::number_in` meets its contract: the number so far, of as many digits as bytes were read, and the bytes that are left.
 use Prim.Native.Nat.{◌-◌, ◌≤◌}
-use mathlib.Core.Path.{refl}
-use native.Mathlib.Omega.{arith}
 use lib.ListN.{length}
-use Rattle.lab_jobs.proofs.Wording.{below, number_none, number_long, below_most, Counted, counted_low, counted_high, counted_turn, counted_all}
-use borrow.Author.Rules.{rules}
+use Rattle.lab_jobs.proofs.Wording.{Counted}
 use Rattle.lab_jobs.proofs.words.number_in.Given as goal
 
 abbrev pub invariant-loop-i : goal.invariant-loop-i

@@ -1,11 +1,8 @@
 -- `lab_jobs::words::same` meets its contract: what is left of the lists tells what all of them do.
 use Prim.Native.Nat.{◌-◌, ◌≤◌}
-use mathlib.Core.Path.{◌≡◌, refl}
-use native.Mathlib.Omega.{arith}
+use mathlib.Core.Path.{◌≡◌}
 use lib.ListN.{length, drop}
 use Rattle.field.specs.Fields.{same}
-use Rattle.lab_jobs.proofs.Wording.{same_lengths, alike_turn, alike_not, alike_all}
-use borrow.Author.Rules.{rules}
 use Rattle.lab_jobs.proofs.words.same.Given as goal
 
 abbrev pub invariant-loop-i : goal.invariant-loop-i

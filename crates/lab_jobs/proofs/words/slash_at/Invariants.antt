@@ -1,11 +1,8 @@
 -- `lab_jobs::words::slash_at` meets its contract: no slash so far.
 use Prim.Native.Nat.{◌+◌, ◌-◌, ◌≤◌}
 use mathlib.Core.Path.{◌≡◌}
-use native.Mathlib.Omega.{arith}
 use lib.ListN.{length, drop}
 use Rattle.lab_jobs.specs.Words.{slash_at}
-use Rattle.lab_jobs.proofs.Wording.{slash_here, slash_turn, slash_none}
-use borrow.Author.Rules.{rules}
 use Rattle.lab_jobs.proofs.words.slash_at.Given as goal
 
 abbrev pub invariant-loop-i : goal.invariant-loop-i

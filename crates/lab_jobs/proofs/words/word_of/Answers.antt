@@ -1,6 +1,5 @@
 -- `lab_jobs::words::word_of` meets its contract: a name, a number or a beta.
 use Rattle.lab_jobs.proofs.Wording.{word_name, word_number, word_beta}
-use borrow.Author.Rules.{rules}
 use Rattle.lab_jobs.proofs.words.word_of.Goals as goal
 
 pub returns-then-name-ne-OTHER : goal.returns-then-name-ne-OTHER

@@ -4,7 +4,6 @@ use native.Mathlib.Omega.{arith}
 use lib.ListN.{length}
 use Rattle.output.proofs.Writing.{wrote_same}
 use Rattle.lab_table.proofs.Chain.{near_of, wrote_long, near_wrote, near_more, name_length, commas_length, part_length, line_is}
-use borrow.Author.Rules.{rules}
 use Rattle.lab_table.proofs.line.put_line.Goals as goal
 
 pub put_numbers-numbers-requires : goal.put_numbers-numbers-requires

@@ -4,7 +4,6 @@ use native.Mathlib.Omega.{arith}
 use Rattle.output.proofs.Writing.{wrote_same, decimal_length}
 use Rattle.lab_table.specs.Line.{name_of}
 use Rattle.lab_table.proofs.Chain.{near, near_more, pg_name, mf_name}
-use borrow.Author.Rules.{rules}
 use Rattle.lab_table.proofs.line.put_name.Goals as goal
 
 pub returns-in-Greedy : goal.returns-in-Greedy

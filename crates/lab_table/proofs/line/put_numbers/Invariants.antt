@@ -1,12 +1,8 @@
 -- `lab_table::line::put_numbers` meets its contract: what is left to write, and 21 places for each number that is left.
 use Prim.Native.Nat.{◌+◌, ◌-◌, ◌*◌, ◌≤◌}
-use mathlib.Core.Path.{refl}
-use native.Mathlib.Omega.{arith}
 use lib.ListN.{length, drop}
-use Rattle.output.proofs.Writing.{Left, left_all, left_none}
+use Rattle.output.proofs.Writing.{Left}
 use Rattle.lab_table.specs.Line.{behind_commas}
-use Rattle.lab_table.proofs.Chain.{commas_done, commas_turn, commas_near, commas_long}
-use borrow.Author.Rules.{rules}
 use Rattle.lab_table.proofs.line.put_numbers.Given as goal
 
 abbrev pub invariant-loop-i : goal.invariant-loop-i

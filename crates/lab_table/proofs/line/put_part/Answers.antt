@@ -3,7 +3,6 @@ use mathlib.Core.Path.{refl}
 use native.Mathlib.Omega.{arith}
 use Rattle.output.proofs.Writing.{wrote_same, decimal_length}
 use Rattle.lab_table.proofs.Chain.{near, near_more, part_none, part_some}
-use borrow.Author.Rules.{rules}
 use Rattle.lab_table.proofs.line.put_part.Goals as goal
 
 pub returns-then-plan-eq0 : goal.returns-then-plan-eq0

@@ -2,7 +2,6 @@
 use mathlib.Core.Path.{refl}
 use Rattle.output.proofs.Writing.{wrote_same}
 use Rattle.lab_table.proofs.Tables.{begins, begins_same, text_refused, text_ran}
-use borrow.Author.Rules.{rules}
 use Rattle.lab_table.proofs.lines.draft.Goals as goal
 
 pub returns-in-Refused : goal.returns-in-Refused

@@ -1,12 +1,9 @@
 -- `lab_table::lines::greatest` meets its contract: the greatest so far, and the values that are left.
-use Prim.Native.Nat.{◌-◌, ◌≤◌, max}
+use Prim.Native.Nat.{max}
 use mathlib.Core.Path.{◌≡◌, refl}
-use mathlib.Core.Logic.{⊎_elim}
 use native.Mathlib.Omega.{arith}
-use lib.ListN.{length, get_or, drop}
-use Rattle.lab_table.specs.Table.{greatest_from}
+use lib.ListN.{get_or}
 use Rattle.lab_table.proofs.Extremes.{greatest_turn, greatest_done}
-use borrow.Author.Rules.{rules}
 use Rattle.lab_table.proofs.lines.greatest.Goals as goal
 use Rattle.lab_table.proofs.lines.greatest.Goals.{else-high-values, then-high-values}
 

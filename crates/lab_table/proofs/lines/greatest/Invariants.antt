@@ -1,12 +1,8 @@
 -- `lab_table::lines::greatest` meets its contract: the greatest so far, and the values that are left.
-use Prim.Native.Nat.{◌-◌, ◌≤◌, max}
-use mathlib.Core.Path.{◌≡◌, refl}
-use mathlib.Core.Logic.{⊎_elim}
-use native.Mathlib.Omega.{arith}
-use lib.ListN.{length, get_or, drop}
+use Prim.Native.Nat.{◌-◌, ◌≤◌}
+use mathlib.Core.Path.{◌≡◌}
+use lib.ListN.{length, drop}
 use Rattle.lab_table.specs.Table.{greatest_from}
-use Rattle.lab_table.proofs.Extremes.{greatest_turn, greatest_done}
-use borrow.Author.Rules.{rules}
 use Rattle.lab_table.proofs.lines.greatest.Given as goal
 
 abbrev pub invariant-loop-i : goal.invariant-loop-i

@@ -1,12 +1,9 @@
 -- `lab_table::lines::lowest` meets its contract: the lowest so far, and the values that are left.
-use Prim.Native.Nat.{◌-◌, ◌≤◌, min}
-use mathlib.Core.Path.{◌≡◌, refl}
-use mathlib.Core.Logic.{⊎_elim}
+use Prim.Native.Nat.{min}
+use mathlib.Core.Path.{◌≡◌}
 use native.Mathlib.Omega.{arith}
-use lib.ListN.{length, get_or, drop}
-use Rattle.lab_table.specs.Table.{lowest_from, lowest}
+use lib.ListN.{get_or}
 use Rattle.lab_table.proofs.Extremes.{lowest_none, lowest_first, lowest_turn, lowest_done}
-use borrow.Author.Rules.{rules}
 use Rattle.lab_table.proofs.lines.lowest.Goals as goal
 use Rattle.lab_table.proofs.lines.lowest.Goals.{else-values-i, then-values-i}
 

@@ -1,16 +1,12 @@
 -- `lab_table::lines::put_betas` meets its contract: what the lines that are left come to, behind those that were written, is what all come to.
 use Prim.Native.Nat.{◌+◌, ◌-◌, ◌*◌, ◌≤◌}
-use mathlib.Core.Path.{◌≡◌, refl, ◌∙◌}
-use mathlib.Core.List.{List, [], ◌∷◌}
+use mathlib.Core.Path.{◌≡◌}
+use mathlib.Core.List.{List}
 use Prim.Native.Nat.{ℕ}
-use native.Mathlib.Omega.{arith}
 use lib.ListN.{length, drop}
 use Rattle.lab_table.specs.declared.lines.Lined.{Lined}
-use Rattle.lab_table.specs.declared.lines.Lined.TheVariants as lined
 use Rattle.lab_table.specs.Table.{lines_of, betas_of}
 use Rattle.lab_table.specs.Writing.{LinedAs}
-use Rattle.lab_table.proofs.Tables.{beta_at, lined_at, lined_not, lined_near, betas_turn, betas_refused, betas_end}
-use borrow.Author.Rules.{rules}
 use Rattle.lab_table.proofs.lines.put_betas.Given as goal
 
 abbrev pub invariant-loop-i : goal.invariant-loop-i

@@ -4,7 +4,6 @@ use native.Mathlib.Omega.{arith}
 use Rattle.runs.specs.declared.Policy.TheVariants.{Greedy}
 use Rattle.lab_table.specs.Table.{lines_of, betas_of}
 use Rattle.lab_table.proofs.Tables.{lined_at, lined_not, lined_near, lined_behind, lined_first}
-use borrow.Author.Rules.{rules}
 use Rattle.lab_table.proofs.lines.put_compared.Goals as goal
 
 pub put_betas-requires : goal.put_betas-requires

@@ -1,7 +1,6 @@
 -- `lab_table::lines::put_mf` meets its contract: the policy is the trace's own, and its line is left out where it is refused.
 use native.Mathlib.Omega.{arith}
 use Rattle.lab_table.proofs.Tables.{mf_none, mf_some}
-use borrow.Author.Rules.{rules}
 use Rattle.lab_table.proofs.lines.put_mf.Goals as goal
 
 pub returns-in-Refused : goal.returns-in-Refused

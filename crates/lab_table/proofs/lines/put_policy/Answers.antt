@@ -1,6 +1,5 @@
 -- `lab_table::lines::put_policy` meets its contract: a refusal is told, and a line is written.
 use Rattle.lab_table.proofs.Tables.{lined_refused, lined_ran}
-use borrow.Author.Rules.{rules}
 use Rattle.lab_table.proofs.lines.put_policy.Goals as goal
 
 pub returns-in-Refused : goal.returns-in-Refused

@@ -1,10 +1,9 @@
 -- `lab_table::lines::table_with` meets its contract: the header, the lines and the last two, or the refusal.
-use mathlib.Core.Path.{refl, ◌∙◌}
+use mathlib.Core.Path.{refl}
 use native.Mathlib.Omega.{arith}
 use Rattle.output.proofs.Writing.{wrote_same}
 use Rattle.lab_table.proofs.Chain.{wrote_long}
 use Rattle.lab_table.proofs.Tables.{begins, mf_length, table_refused, table_written, table_near}
-use borrow.Author.Rules.{rules}
 use Rattle.lab_table.proofs.lines.table_with.Goals as goal
 
 pub put_compared-requires : goal.put_compared-requires

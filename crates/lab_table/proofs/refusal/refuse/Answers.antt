@@ -4,7 +4,6 @@ use mathlib.Core.Path.{refl, ap}
 use native.Mathlib.Omega.{arith}
 use Rattle.output.specs.Output.{refusal_text}
 use Rattle.output.proofs.Writing.{wrote_same}
-use borrow.Author.Rules.{rules}
 use Rattle.lab_table.proofs.refusal.refuse.Goals as goal
 
 pub returns : goal.returns

@@ -5,7 +5,6 @@ use Rattle.steps.proofs.Guarding.{within_lies}
 use Rattle.steps.specs.Lent.{lent}
 use Rattle.mf_flush.proofs.Finishing.{finished}
 use Rattle.mf_flush.proofs.Leaving.{end_left}
-use borrow.Author.Rules.{rules}
 use Rattle.mf_flush.proofs.ends.end_slot.Goals as goal
 
 pub shape_of-marks : goal.shape_of-marks

@@ -1,8 +1,7 @@
 -- The invariant: the ends still to come complete what all of them do. They are over where no slot is left, or nothing is held.
-use Prim.Native.Nat.{◌+◌, ◌-◌}
-use mathlib.Core.Path.{◌≡◌, refl, sym, ap₂, ◌∙◌}
+use Prim.Native.Nat.{◌+◌}
+use mathlib.Core.Path.{refl, sym, ap₂, ◌∙◌}
 use native.Mathlib.Omega.{arith}
-use lib.ListN.{length}
 use borrow.Author.Tests.{ltb-true, ltb-false}
 use Rattle.model.specs.Policies.MF.{Marked, mf_policy}
 use Rattle.model.specs.Record.{lists_of}
@@ -12,8 +11,7 @@ use Rattle.steps.specs.Lent.{Lent, lent}
 use Rattle.steps.proofs.Windows.{window, window_length}
 use Rattle.mf_flush.proofs.Ending.{ending_all}
 use Rattle.mf_flush.proofs.Leaving.{ends, ends_past, ends_idle, ends_turn}
-use Rattle.mf_flush.proofs.Finishing.{Left, left_turn, left_past, left_idle}
-use borrow.Author.Rules.{rules}
+use Rattle.mf_flush.proofs.Finishing.{left_turn, left_past, left_idle}
 use Rattle.mf_flush.proofs.ends.end_slots.Goals as goal
 
 pub loop-slot-init : goal.loop-slot-init

@@ -1,19 +1,14 @@
 -- The invariant: the ends still to come complete what all of them do. They are over where no slot is left, or nothing is held.
-use Prim.Native.Nat.{◌+◌, ◌-◌}
-use mathlib.Core.Path.{◌≡◌, refl, sym, ap₂, ◌∙◌}
-use native.Mathlib.Omega.{arith}
+use Prim.Native.Nat.{◌-◌}
+use mathlib.Core.Path.{◌≡◌}
 use lib.ListN.{length}
-use borrow.Author.Tests.{ltb-true, ltb-false}
-use Rattle.model.specs.Policies.MF.{Marked, mf_policy}
 use Rattle.model.specs.Record.{lists_of}
 use Rattle.steps.specs.Window.{window_of}
 use Rattle.mf_marks.specs.Mark.{beside}
-use Rattle.steps.specs.Lent.{Lent, lent}
-use Rattle.steps.proofs.Windows.{window, window_length}
-use Rattle.mf_flush.proofs.Ending.{ending_all}
-use Rattle.mf_flush.proofs.Leaving.{ends, ends_past, ends_idle, ends_turn}
-use Rattle.mf_flush.proofs.Finishing.{Left, left_turn, left_past, left_idle}
-use borrow.Author.Rules.{rules}
+use Rattle.steps.specs.Lent.{lent}
+use Rattle.steps.proofs.Windows.{window}
+use Rattle.mf_flush.proofs.Leaving.{ends}
+use Rattle.mf_flush.proofs.Finishing.{Left}
 use Rattle.mf_flush.proofs.ends.end_slots.Given as goal
 
 abbrev pub invariant-loop-slot : goal.invariant-loop-slot

@@ -1,11 +1,8 @@
 -- The oldest packet is what the window begins with; on idle the window is empty.
 use mathlib.Core.Path.{refl, sym, ◌∙◌}
-use mathlib.Core.Logic.{⊎_elim}
-use native.Mathlib.Omega.{arith}
 use Rattle.model.specs.Record.{lists_of}
 use Rattle.mf_flush.proofs.Finishing.{sent_oldest, sent_none}
 use Rattle.steps.proofs.Guarding.{within_lies}
-use borrow.Author.Rules.{rules}
 use Rattle.mf_flush.proofs.ends.send.Goals as goal
 
 pub returns-in_default : goal.returns-in_default

@@ -1,7 +1,6 @@
 -- Under a head with no mark nothing goes.
 use Rattle.model.specs.Record.{lists_of}
 use Rattle.mf_flush.proofs.Flushing.{nothing_goes}
-use borrow.Author.Rules.{rules}
 use Rattle.mf_flush.proofs.sift.flush.Goals as goal
 
 pub returns-then-m-eq0 : goal.returns-then-m-eq0

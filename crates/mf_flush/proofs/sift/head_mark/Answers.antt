@@ -2,7 +2,6 @@
 use mathlib.Core.Path.{sym, ap, ◌∙◌}
 use Rattle.model.specs.Policies.MF.{head_mark}
 use Rattle.steps.proofs.Windows.{window_cons, window_none}
-use borrow.Author.Rules.{rules}
 use Rattle.mf_flush.proofs.sift.head_mark.Goals as goal
 
 pub returns-then-head-w : goal.returns-then-head-w

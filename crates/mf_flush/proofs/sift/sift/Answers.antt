@@ -1,15 +1,13 @@
 -- The invariant: what is held so far and what still stays is all that stays; what still goes completes what has gone.
-use Prim.Native.Nat.{◌-◌}
-use mathlib.Core.Path.{◌≡◌, refl, sym, ap, ◌∙◌}
+use mathlib.Core.Path.{refl, sym, ap, ◌∙◌}
 use mathlib.Core.Bool.{not, ◌&&◌}
-use lib.ListN.{length, get_or}
+use lib.ListN.{get_or}
 use lib.Dec.{eqb, leb}
 use Rattle.model.specs.declared.PacketNumber.{PacketNumber}
 use Rattle.model.specs.declared.Fate.TheVariants.{Flushed}
 use Rattle.model.specs.Record.{enter, lists_of}
 use Rattle.entry.specs.Entry.{entry}
-use Rattle.mf_flush.proofs.Flushing.{Sifting, sifting_all, sifting_none, sifting_goes, sifting_stays}
-use borrow.Author.Rules.{rules}
+use Rattle.mf_flush.proofs.Flushing.{sifting_all, sifting_none, sifting_goes, sifting_stays}
 use Rattle.mf_flush.proofs.sift.sift.Goals as goal
 
 pub loop-from-init : goal.loop-from-init

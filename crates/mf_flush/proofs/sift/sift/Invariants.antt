@@ -1,15 +1,9 @@
 -- The invariant: what is held so far and what still stays is all that stays; what still goes completes what has gone.
 use Prim.Native.Nat.{◌-◌}
-use mathlib.Core.Path.{◌≡◌, refl, sym, ap, ◌∙◌}
-use mathlib.Core.Bool.{not, ◌&&◌}
-use lib.ListN.{length, get_or}
-use lib.Dec.{eqb, leb}
-use Rattle.model.specs.declared.PacketNumber.{PacketNumber}
-use Rattle.model.specs.declared.Fate.TheVariants.{Flushed}
-use Rattle.model.specs.Record.{enter, lists_of}
-use Rattle.entry.specs.Entry.{entry}
-use Rattle.mf_flush.proofs.Flushing.{Sifting, sifting_all, sifting_none, sifting_goes, sifting_stays}
-use borrow.Author.Rules.{rules}
+use mathlib.Core.Path.{◌≡◌}
+use lib.ListN.{length}
+use Rattle.model.specs.Record.{lists_of}
+use Rattle.mf_flush.proofs.Flushing.{Sifting}
 use Rattle.mf_flush.proofs.sift.sift.Given as goal
 
 abbrev pub invariant-loop-from : goal.invariant-loop-from

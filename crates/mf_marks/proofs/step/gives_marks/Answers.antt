@@ -3,7 +3,6 @@ use Rattle.model.specs.declared.Slot.{Slot}
 use mathlib.Core.Path.{ap}
 use lib.Dec.{eqb}
 use Rattle.mf_marks.proofs.Marking.{both_fail, both_by_second}
-use borrow.Author.Rules.{rules}
 use Rattle.mf_marks.proofs.step.gives_marks.Goals as goal
 
 pub returns-then-p-hi : goal.returns-then-p-hi

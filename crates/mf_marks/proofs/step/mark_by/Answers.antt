@@ -1,7 +1,6 @@
 -- The test decides which of two lists of marks it is.
 use mathlib.Core.Path.{sym, ◌∙◌}
 use Rattle.mf_marks.proofs.Marking.{by_first, by_second}
-use borrow.Author.Rules.{rules}
 use Rattle.mf_marks.proofs.step.mark_by.Goals as goal
 
 pub returns-then-gives_marks : goal.returns-then-gives_marks

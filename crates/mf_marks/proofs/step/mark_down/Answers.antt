@@ -5,8 +5,7 @@ use borrow.Author.Tests.{ltb-true, ltb-false}
 use Prim.Native.Nat.{ℕ}
 use mathlib.Core.Path.{sym, ap, ◌∙◌}
 use lib.ListN.{set}
-use Rattle.mf_marks.proofs.Marking.{Down, down_all, down_none, down_spent, down_marked, down_passed}
-use borrow.Author.Rules.{rules}
+use Rattle.mf_marks.proofs.Marking.{down_all, down_none, down_spent, down_marked, down_passed}
 use Rattle.mf_marks.proofs.step.mark_down.Goals as goal
 
 pub loop-i-init : goal.loop-i-init

@@ -1,12 +1,5 @@
 -- The invariant: what is left of the marking, on the marks as they are, gives what the whole gives on the marks as they were. Each turn is one step of the definition.
-use Prim.Native.Nat.{◌-◌}
-use native.Mathlib.Omega.{arith}
-use borrow.Author.Tests.{ltb-true, ltb-false}
-use Prim.Native.Nat.{ℕ}
-use mathlib.Core.Path.{sym, ap, ◌∙◌}
-use lib.ListN.{set}
-use Rattle.mf_marks.proofs.Marking.{Down, down_all, down_none, down_spent, down_marked, down_passed}
-use borrow.Author.Rules.{rules}
+use Rattle.mf_marks.proofs.Marking.{Down}
 use Rattle.mf_marks.proofs.step.mark_down.Given as goal
 
 abbrev pub invariant-loop-i : goal.invariant-loop-i

@@ -4,7 +4,6 @@ use Rattle.model.specs.declared.PacketNumber.{PacketNumber}
 use mathlib.Core.Path.{ap, ◌∙◌}
 use lib.Dec.{eqb}
 use Rattle.mf_marks.proofs.Marking.{both_fail, both_by_second, twice_not}
-use borrow.Author.Rules.{rules}
 use Rattle.mf_marks.proofs.step.takes_mark.Goals as goal
 
 pub returns-then-p-lo : goal.returns-then-p-lo

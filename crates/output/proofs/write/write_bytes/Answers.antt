@@ -1,9 +1,7 @@
 -- `output::write_bytes` meets its contract: the bytes that are left, written into the list as it is now, give what all give, written into it as it was.
-use Prim.Native.Nat.{◌+◌, ◌-◌, ◌≤◌}
 use native.Mathlib.Omega.{arith}
-use borrow.Author.Rules.{rules}
-use lib.ListN.{length, drop, drop_of_length-le}
-use Rattle.output.proofs.Writing.{Left, left_none, put_start, put_turn}
+use lib.ListN.{drop_of_length-le}
+use Rattle.output.proofs.Writing.{left_none, put_start, put_turn}
 use Rattle.output.proofs.write.write_bytes.Goals as goal
 
 pub loop-i-init : goal.loop-i-init

@@ -1,11 +1,8 @@
 -- `output::write_line` meets its contract: what is left of the line, and 21 places for each number that is left.
-use Prim.Native.Nat.{◌+◌, ◌-◌, ◌*◌, ◌≤◌}
 use mathlib.Core.Path.{refl, ◌∙◌}
 use native.Mathlib.Omega.{arith}
-use borrow.Author.Rules.{rules}
-use lib.ListN.{length, drop, length-set}
-use Rattle.output.specs.Output.{line_with}
-use Rattle.output.proofs.Writing.{Left, left_all, left_none, left_wrote, line_done, wrote_fits, line_turn, line_end, number_fits, number_long}
+use lib.ListN.{length-set}
+use Rattle.output.proofs.Writing.{left_all, left_none, left_wrote, line_done, wrote_fits, line_turn, line_end, number_fits, number_long}
 use Rattle.output.proofs.write.write_line.Goals as goal
 
 pub loop-i-init : goal.loop-i-init

@@ -1,10 +1,8 @@
 -- `output::write_number` meets its contract: the digits that are left and those that stand at the end of the local list are the number's.
-use Rattle.output.proofs.Writing.{Digits, digits_none, digits_more, digits_part, digits_all, decimal_length, wrote_same}
+use Rattle.output.proofs.Writing.{Digits}
 use Prim.Native.Nat.{◌≤◌}
-use mathlib.Core.Path.{◌≡◌, refl, ap, ◌∙◌}
-use native.Mathlib.Omega.{arith}
-use borrow.Author.Rules.{rules}
-use lib.ListN.{length, replicate, length-set}
+use mathlib.Core.Path.{◌≡◌}
+use lib.ListN.{length}
 use Rattle.output.proofs.write.write_number.Given as goal
 
 abbrev pub invariant-loop-i : goal.invariant-loop-i

@@ -1,9 +1,7 @@
 -- `output::write_rows` meets its contract: the rows that are left, and 128 places for each.
 use Prim.Native.Nat.{◌+◌, ◌-◌, ◌*◌, ◌≤◌}
-use native.Mathlib.Omega.{arith}
-use borrow.Author.Rules.{rules}
 use lib.ListN.{length}
-use Rattle.output.proofs.Writing.{Left, left_all, left_none, rows_left, rows_again, rows_done, row_fits, row_long}
+use Rattle.output.proofs.Writing.{Left, rows_left}
 use Rattle.output.proofs.write.write_rows.Given as goal
 
 abbrev pub invariant-loop-i : goal.invariant-loop-i

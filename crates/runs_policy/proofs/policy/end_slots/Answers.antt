@@ -5,7 +5,6 @@ use Rattle.steps.specs.Step.{sending}
 use Rattle.steps.proofs.Lending.{sent_steps}
 use Rattle.mf_flush.proofs.Leaving.{ends_finish}
 use Rattle.runs_policy.proofs.Turning.{queue_done}
-use borrow.Author.Rules.{rules}
 use Rattle.runs_policy.proofs.policy.end_slots.Goals as goal
 
 pub returns-in-Marking : goal.returns-in-Marking

@@ -1,7 +1,6 @@
 -- A place outside the list is read as 0, which is not kept.
 use mathlib.Core.Path.{refl}
 use lib.ListN.{get_or-eq_default}
-use borrow.Author.Rules.{rules}
 use Rattle.runs_policy.proofs.policy.is_kept.Goals as goal
 
 pub returns-then-kept-place : goal.returns-then-kept-place

@@ -11,7 +11,6 @@ use Rattle.steps_arrive.proofs.Lending.{arrived_steps, kept_steps}
 use Rattle.mf_flush.proofs.Leaving.{ends_finish}
 use Rattle.runs_policy.specs.declared.policy.Policy.TheVariants.{Kept, Marking}
 use Rattle.runs_policy.proofs.Turning.{queue_done, ended_free, turned}
-use borrow.Author.Rules.{rules}
 use Rattle.runs_policy.proofs.policy.turn.Goals as goal
 
 pub returns-in-Marking : goal.returns-in-Marking

@@ -1,12 +1,10 @@
 -- The invariant is `Going`: the window and the marks are the policy's state, and what is left of its course completes the entries and the greatest length.
 use Prim.Native.Nat.{max, ◌+◌, ◌-◌}
 use mathlib.Core.Path.{◌≡◌, refl, ◌∙◌}
-use mathlib.Core.Logic.{⊎_elim}
 use native.Mathlib.Omega.{arith}
-use lib.ListN.{length}
 use borrow.Author.Rules.{rules}
 use Rattle.model.specs.Record.{lists_of}
-use Rattle.runs_policy.proofs.Running.{Going, going_start, going_free, going_turn, going_end}
+use Rattle.runs_policy.proofs.Running.{going_start, going_free, going_turn, going_end}
 use Rattle.runs_policy.proofs.run.run.Goals as goal
 use Rattle.runs_policy.proofs.run.run.Goals.{else-most-length, then-most-length}
 

@@ -1,12 +1,9 @@
 -- The invariant is `Going`: the window and the marks are the policy's state, and what is left of its course completes the entries and the greatest length.
-use Prim.Native.Nat.{max, ◌+◌, ◌-◌}
-use mathlib.Core.Path.{◌≡◌, refl, ◌∙◌}
-use mathlib.Core.Logic.{⊎_elim}
-use native.Mathlib.Omega.{arith}
+use Prim.Native.Nat.{◌-◌}
+use mathlib.Core.Path.{◌≡◌}
 use lib.ListN.{length}
-use borrow.Author.Rules.{rules}
 use Rattle.model.specs.Record.{lists_of}
-use Rattle.runs_policy.proofs.Running.{Going, going_start, going_free, going_turn, going_end}
+use Rattle.runs_policy.proofs.Running.{Going}
 use Rattle.runs_policy.proofs.run.run.Given as goal
 
 abbrev pub invariant-loop-i : goal.invariant-loop-i

@@ -1,14 +1,12 @@
 -- The invariant is `Ruled`: the window holds the queue, and what is left of the course completes the entries and the greatest length.
 use Prim.Native.Nat.{max, ◌+◌, ◌-◌}
 use mathlib.Core.Path.{◌≡◌, refl, ◌∙◌}
-use mathlib.Core.Logic.{⊎_elim}
 use native.Mathlib.Omega.{arith}
-use lib.ListN.{length}
 use borrow.Author.Rules.{rules}
 use Rattle.model.specs.Record.{lists_of}
 use Rattle.laws.specs.AtOnce.{at_once}
 use Rattle.steps.proofs.Lending.{sent_steps}
-use Rattle.runs_rule.proofs.Running.{Ruled, ruled_start, ruled_free, ruled_turn, ruled_end}
+use Rattle.runs_rule.proofs.Running.{ruled_start, ruled_free, ruled_turn, ruled_end}
 use Rattle.runs_rule.proofs.run.run.Goals as goal
 use Rattle.runs_rule.proofs.run.run.Goals.{else-most-length, then-most-length}
 

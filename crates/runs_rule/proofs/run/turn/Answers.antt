@@ -14,7 +14,6 @@ use Rattle.steps.proofs.Lending.{sent_steps}
 use Rattle.steps_arrive.proofs.Guarding.{free_place}
 use Rattle.steps_arrive.proofs.Lending.{held_holds, arrived_steps}
 use Rattle.runs_rule.proofs.Empty.{holds_at_once}
-use borrow.Author.Rules.{rules}
 use Rattle.runs_rule.proofs.run.turn.Goals as goal
 
 pub returns-then-left : goal.returns-then-left

@@ -2,7 +2,6 @@
 use mathlib.Core.Path.{refl}
 use native.Mathlib.Omega.{arith}
 use Rattle.steps.proofs.Windows.{window_cons, window_none}
-use borrow.Author.Rules.{rules}
 use Rattle.steps.proofs.held.oldest.Goals as goal
 
 pub returns-then-head-tail : goal.returns-then-head-tail

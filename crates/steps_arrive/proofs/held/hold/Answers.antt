@@ -3,7 +3,6 @@ use Rattle.steps.specs.Window.{window_of}
 use Rattle.steps.specs.Lent.{lent}
 use Rattle.steps_arrive.specs.Arrive.{open_place}
 use Rattle.steps.proofs.Placing.{placed_behind}
-use borrow.Author.Rules.{rules}
 use Rattle.steps_arrive.proofs.held.hold.Goals as goal
 
 pub returns : goal.returns

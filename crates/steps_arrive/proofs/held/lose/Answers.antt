@@ -1,6 +1,5 @@
 -- The packets behind the place move down by one, and the window ends one place earlier.
 use Rattle.steps_arrive.proofs.Placing.{placed_without}
-use borrow.Author.Rules.{rules}
 use Rattle.steps_arrive.proofs.held.lose.Goals as goal
 
 pub returns : goal.returns

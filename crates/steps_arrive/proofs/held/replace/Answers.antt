@@ -2,7 +2,6 @@
 use Rattle.model.specs.Record.{lists_of}
 use Rattle.steps.specs.Lent.{lent}
 use Rattle.steps_arrive.proofs.Deciding.{lost_holds, lost_free, replaced_in}
-use borrow.Author.Rules.{rules}
 use Rattle.steps_arrive.proofs.held.replace.Goals as goal
 
 pub hold-requires : goal.hold-requires
