@@ -1,4 +1,4 @@
-//! Links the static library that `rt staticlib host` writes; `speed/run` names its folder.
+//! Links the static library that `tools/build host` builds; `speed/run` names its folder.
 use std::env;
 
 fn main() {

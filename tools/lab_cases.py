@@ -41,19 +41,21 @@ def judge(title, ran, status, out=None, says=(), silent=False):
 
 
 class Tree:
-    """A copy of what lab needs, with programs that are newer than its only crate."""
+    """A copy of what lab needs, with programs that are newer than its two crates."""
 
     def __init__(self, root, work):
         self.work = work
         self.root = work / "a tree"
         (self.root / "target/bin").mkdir(parents=True)
-        (self.root / "crates/bench").mkdir(parents=True)
-        (self.root / "crates/bench/main.rt").write_text("")
-        (self.root / "crates.txt").write_text("bench:\n")
+        for crate in ("bench", "lab"):
+            (self.root / f"crates/{crate}/out").mkdir(parents=True)
+            (self.root / f"crates/{crate}/main.rt").write_text("")
+        (self.root / "crates.txt").write_text("bench:\nlab:\n")
         self.age()
         shutil.copy(root / "lab", self.root)
         (self.root / "tools").mkdir()
-        shutil.copy(root / "tools/explain", self.root / "tools")
+        for name in ("build", "explain"):
+            shutil.copy(root / "tools" / name, self.root / "tools")
         for name in ("second", "examples"):
             (self.root / name).symlink_to(root / name)
         for name in ("bench", "lab"):
@@ -64,8 +66,8 @@ class Tree:
         self.lab = self.root / "lab"
 
     def age(self):
-        """The crate and the list of crates are old."""
-        for old in (self.root / "crates/bench/main.rt", self.root / "crates.txt"):
+        """The crates and the list of crates are old."""
+        for old in (self.root / "crates/bench/main.rt", self.root / "crates/lab/main.rt", self.root / "crates.txt"):
             os.utime(old, (1_000_000_000,) * 2)
 
     def program(self, call):
@@ -83,7 +85,7 @@ class Tree:
         folder = self.work / name
         if not folder.exists():
             folder.mkdir()
-            for program in "awk bash cat dirname find grep head mkdir mktemp readlink rm sed sh sort tail touch wc".split():
+            for program in "awk bash cat cp dirname find grep head mkdir mktemp mv readlink rm sed sh sort tail touch wc".split():
                 (folder / program).symlink_to(shutil.which(program))
         return folder
 
@@ -301,12 +303,23 @@ def places(tree, call, what, given, answer):
     if b"line 1\n" in ran.stderr or "slot" in log.read_text():
         wrong.append(f"{title}: the program is not proved: more than five lines are shown, or rt read the text")
     rt.write_text("#!/bin/sh\nexit 0\n")
-    judge(f"{title}: proved and not there", tree.run(*call, given=given, env=with_kit), 1, b"", ("proved and yet not in target/bin",))
-    rt.write_text(f'#!/bin/sh\necho "$PWD: $@"\ncat "{was}" > target/bin/{name}\n/bin/chmod +x target/bin/{name}\n')
+    said = (f"{name} was not proved", f"target/lab-{name}.log", f"{name} is proved, and yet crates/{name}/out/{name} is not there")
+    judge(f"{title}: proved and not there", tree.run(*call, given=given, env=with_kit), 1, b"", said)
+    with replaced(tree.root / "tools/build", "exit 0"):
+        judge(f"{title}: built and not there", tree.run(*call, given=given, env=with_kit), 1, b"", ("proved and yet not in target/bin",))
+    # The program that rt makes is also run by it; its output is no answer.
+    made = f"out/{name}"
+    rt.write_text(f'#!/bin/sh\necho "$PWD: $@" >&2\ncat\necho an answer\ncat "{was}" > {made}\n/bin/chmod +x {made}\n')
     judge(f"{title}: proved and built", tree.run(*call, given=given, env=with_kit, cwd="/"), 0, answer, (f"proving and building {name}", "some minutes"))
-    if log.read_text() != f"{tree.root}: check {name}\n":
+    if log.read_text() != f"{tree.root}/crates/{name}: run\n":
         wrong.append(f"{title}: rt was called so: {log.read_text()}")
     judge(f"{title}: not again", tree.run(*call, given=given, env=with_kit), 0, answer, silent=True)
+    # What rt ci has left there is taken as it is.
+    program.unlink()
+    rt.write_text("#!/bin/sh\nexit 1\n")
+    judge(f"{title}: proved already", tree.run(*call, given=given, env=with_kit), 0, answer, (f"proving and building {name}",))
+    (tree.root / f"crates/{name}/{made}").unlink()
+    judge(f"{title}: not again either", tree.run(*call, given=given, env=with_kit), 0, answer, silent=True)
 
 
 def finish(root, parts, success):
