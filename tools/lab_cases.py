@@ -307,9 +307,8 @@ def places(tree, call, what, given, answer):
     judge(f"{title}: proved and not there", tree.run(*call, given=given, env=with_kit), 1, b"", said)
     with replaced(tree.root / "tools/build", "exit 0"):
         judge(f"{title}: built and not there", tree.run(*call, given=given, env=with_kit), 1, b"", ("proved and yet not in target/bin",))
-    # The program that rt makes is also run by it; its output is no answer.
     made = f"out/{name}"
-    rt.write_text(f'#!/bin/sh\necho "$PWD: $@" >&2\ncat\necho an answer\ncat "{was}" > {made}\n/bin/chmod +x {made}\n')
+    rt.write_text(f'#!/bin/sh\necho "$PWD: $@"\ncat\ncat "{was}" > {made}\n/bin/chmod +x {made}\n')
     judge(f"{title}: proved and built", tree.run(*call, given=given, env=with_kit, cwd="/"), 0, answer, (f"proving and building {name}", "some minutes"))
     if log.read_text() != f"{tree.root}/crates/{name}: run\n":
         wrong.append(f"{title}: rt was called so: {log.read_text()}")
