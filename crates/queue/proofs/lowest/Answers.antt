@@ -1,6 +1,6 @@
 -- The invariant: the lowest so far and the lowest of the rest are together the lowest of all. The places left are the measure.
 use native.Mathlib.Omega.{arith}
-use Rattle.queue.proofs.Search.{lowest_fits, lowest_done, lowest_turn}
+use Rattle.queue.proofs.Search.{lowest_fits, lowest_done}
 use Rattle.queue.proofs.lowest.Goals as goal
 
 pub loop-i-init : goal.loop-i-init
