@@ -88,6 +88,7 @@ fn not_later(last: Slot, row: FatedRow) -> bool
 }
 
 // Faults 12, 13 and 14 of one packet, in this order.
+#[tactic(auto, unfolding(model::specs::Rules::or_else))]
 pub fn fault_of(slots: &[u32], last: Slot, row: FatedRow) -> Found
     ensures { found_of result row.number ≡ row_fault slots.now last.0 (row_of row) }
 {

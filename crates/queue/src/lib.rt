@@ -17,6 +17,7 @@ pub enum Choice {
 }
 
 // The lowest value; the greatest u32 where nothing is held.
+#[tactic(auto, using(crate::proofs::Search::lowest_turn))]
 fn lowest(values: &[u32]) -> u32
     ensures { result ≡ lowest_of values.now }
 {
