@@ -14,7 +14,8 @@ use model::Record;
 pub fn in_range(high: usize, n: usize) -> bool
     ensures { result ≡ within 1 high n }
 {
-    1 <= n && n <= high
+    let some = 1 <= n;
+    some && n <= high
 }
 
 pub fn value_ok(value: u32) -> bool

@@ -36,9 +36,7 @@ fn mix_slot(sum: u64, answer: SlotAnswer) -> u64
     mix(sum, of_slot(answer))
 }
 
-// The event that is an end of slot; any other number is an arrival of that value.
-const END: u32 = 0;
-
+// 0 is an end of slot, any other number an arrival of that value.
 pub fn feed(port: Port, events: &[u32]) -> u64
     ensures { result ≡ heard (state_of port) 0 events.now }
 {
@@ -47,7 +45,8 @@ pub fn feed(port: Port, events: &[u32]) -> u64
     let mut i = 0;
     while i < events.len() {
         let event = events[i];
-        if event == END {
+        let ends = event == 0;
+        if ends {
             let end = left.end_of_slot();
             left = end.port;
             let answer = end.answer;

@@ -56,7 +56,8 @@ pub fn read_rows<R: Read>(reader: &mut R, header: &[u8], table: &mut [u32]) -> E
         let Piece::Came(next, n) = read_piece(reader, parser, header, table, &mut bytes) else {
             return Ended::Failed;
         };
-        if n == 0 {
+        let ended = n == 0;
+        if ended {
             let last = next.end(header, table);
             return Ended::Read(last.outcome());
         }

@@ -55,7 +55,8 @@ pub fn table(
     if dens.len() != nums.len() {
         return 0;
     }
-    if BETAS < nums.len() {
+    let many = BETAS < nums.len();
+    if many {
         return 0;
     }
     let mut text = [0u8; BYTES];

@@ -34,7 +34,8 @@ pub fn write_number(out: &mut [u8], at: usize, number: u64) -> usize
     while 0 < i {
         i -= 1;
         digits[i] = ZERO + (left % 10) as u8;
-        if left < 10 {
+        let last = left < 10;
+        if last {
             return write_bytes(out, at, &digits[i..]);
         }
         left /= 10;

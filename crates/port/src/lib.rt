@@ -88,7 +88,8 @@ impl Port {
     pub fn new(room: usize, beta: Beta) -> MadePort
         ensures { making_of result ≡ make_call room beta }
     {
-        if !room_ok(room) {
+        let roomy = room_ok(room);
+        if !roomy {
             return unmade(Cause::Room);
         }
         if !beta_ok(beta) {
@@ -157,7 +158,8 @@ impl Port {
                 }),
             };
         }
-        if self.held == 0 {
+        let idle = self.held == 0;
+        if idle {
             return PortSlot {
                 port: self,
                 answer: SlotAnswer::Idle,

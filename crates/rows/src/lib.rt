@@ -75,7 +75,8 @@ fn name_at(header: &[u8], column: usize) -> &[u8]
 fn write(table: &mut [u32], column: usize, row: usize, number: u32)
     ensures { table.new ≡ written column row number table.old }
 {
-    if row < Record::PACKETS {
+    let placed = row < Record::PACKETS;
+    if placed {
         if column < table.len() / Record::PACKETS {
             put(table, column * Record::PACKETS + row, number);
         }
@@ -284,7 +285,8 @@ impl Parser {
         if self.after_cr {
             return self.spoiled();
         }
-        if self.is_at_start() {
+        let nothing = self.is_at_start();
+        if nothing {
             if self.line == 1 {
                 return self.end_line(header, table);
             }

@@ -9,7 +9,8 @@ pub fn oldest(numbers: &[u32], values: &[u32], head: usize, tail: usize) -> Slot
     requires { Within (record { head = head; tail = tail }) numbers.now values.now }
     ensures { result ≡ oldest_of (window_of (record { head = head; tail = tail }) numbers.now values.now) }
 {
-    if head < tail {
+    let some = head < tail;
+    if some {
         let number = numbers[head];
         let value = values[head];
         SlotAnswer::Sent(Packet {

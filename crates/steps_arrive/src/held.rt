@@ -19,7 +19,8 @@ fn freed(numbers: &mut [u32], values: &mut [u32], w: Window) -> Window
 {
     let head = w.head;
     let tail = w.tail;
-    if tail < values.len() {
+    let free = tail < values.len();
+    if free {
         return w;
     }
     slide(numbers, head, tail, 0);

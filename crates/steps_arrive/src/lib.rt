@@ -58,7 +58,8 @@ pub fn hold_or_reject(
     if !has_place(numbers.len(), values.len(), w) {
         return w;
     }
-    if keep {
+    let holds = keep;
+    if holds {
         return held::hold(numbers, values, w, p);
     }
     enter(fates, whens, bys, p.number, Fate::Rejected, slot, p.number);

@@ -92,7 +92,8 @@ pub fn answer(read: Rows, table: &[u32], out: &mut [u8]) -> usize
         Rows::Malformed(line) => put_refusal(out, Cause::Text.number() as u64, line),
         Rows::TooMany => put_refusal(out, Cause::Packets.number() as u64, 0),
         Rows::Read(count) => {
-            if Record::PACKETS < count {
+            let many = Record::PACKETS < count;
+            if many {
                 return put_refusal(out, Cause::Packets.number() as u64, 0);
             }
             let end = Record::PACKETS + count;

@@ -195,7 +195,8 @@ fn in_order(
     if !lengths_equal(slots, values, fates, whens, bys) {
         return refused(Cause::Lengths);
     }
-    if Record::PACKETS < slots.len() {
+    let many = Record::PACKETS < slots.len();
+    if many {
         return refused(Cause::Packets);
     }
     if !room_ok(room) {

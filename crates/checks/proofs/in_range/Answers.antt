@@ -3,10 +3,10 @@ use borrow.Author.Tests.{le-leb, lt-leb}
 use Rattle.model.specs.Limits.{within}
 use Rattle.checks.proofs.in_range.Goals as goal
 
-pub returns-then-n-ge1 : goal.returns-then-n-ge1
+pub returns-then-some : goal.returns-then-some
 unfolding within
-returns-then-n-ge1 c = simp (le-leb _ _ c.if-n-ge1.true)
+returns-then-some c = simp (le-leb _ _ c.if-some.true)
 
-pub returns-else-n-ge1 : goal.returns-else-n-ge1
+pub returns-else-some : goal.returns-else-some
 unfolding within
-returns-else-n-ge1 c = simp (lt-leb _ _ c.if-n-ge1.false)
+returns-else-some c = simp (lt-leb _ _ c.if-some.false)

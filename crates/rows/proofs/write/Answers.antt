@@ -6,12 +6,12 @@ use Rattle.rows.proofs.write.Goals as goal
 
 pub returns-then-column-table : goal.returns-then-column-table
 unfolding written
-returns-then-column-table c = rw (lt-ltb _ _ c.if-row-lt-PACKETS.true, lt-ltb _ _ c.if-column-table.true) c.put.ensures
+returns-then-column-table c = rw (lt-ltb _ _ c.if-placed.true, lt-ltb _ _ c.if-column-table.true) c.put.ensures
 
 pub returns-else-column-table : goal.returns-else-column-table
 unfolding written
-returns-else-column-table c = rw (lt-ltb _ _ c.if-row-lt-PACKETS.true, le-ltb _ _ c.if-column-table.false) refl
+returns-else-column-table c = rw (lt-ltb _ _ c.if-placed.true, le-ltb _ _ c.if-column-table.false) refl
 
-pub returns-else-row-lt-PACKETS : goal.returns-else-row-lt-PACKETS
+pub returns-else-placed : goal.returns-else-placed
 unfolding written
-returns-else-row-lt-PACKETS c = rw (le-ltb _ _ c.if-row-lt-PACKETS.false) refl
+returns-else-placed c = rw (le-ltb _ _ c.if-placed.false) refl

@@ -18,14 +18,14 @@ hold-requires c = let a = c.args in
     let place = has_place_lem a.w a.numbers.now a.values.now _ c.has_place.ensures c.if-not-has_place.false-raw in
     record { within = place_within a.w a.numbers.now a.values.now place; head_in_bounds = place_free a.w a.numbers.now a.values.now place }
 
-pub returns-then-keep : goal.returns-then-keep
-returns-then-keep c = let a = c.args in
+pub returns-then-holds : goal.returns-then-holds
+returns-then-holds c = let a = c.args in
     let place = has_place_lem a.w a.numbers.now a.values.now _ c.has_place.ensures c.if-not-has_place.false-raw in
     let now = lists_of a.fates.now a.whens.now a.bys.now in
     let held = c.hold in
     let done = lent held.result held.new.numbers held.new.values in
     arrival_kept a.w a.numbers.now a.values.now (held_if a.keep) (arrival a.slot a.p) now (moved done now) place
-    (rw c.if-keep.true (held_in_lem a.w a.numbers.now a.values.now (place_within a.w a.numbers.now a.values.now place) a.slot a.p now done held.ensures))
+    (rw c.if-holds.true (held_in_lem a.w a.numbers.now a.values.now (place_within a.w a.numbers.now a.values.now place) a.slot a.p now done held.ensures))
 
 pub returns : goal.returns
 returns c = let a = c.args in
@@ -34,4 +34,4 @@ returns c = let a = c.args in
     let entered = c.enter in
     let after = lists_of entered.new.fates entered.new.whens entered.new.bys in
     arrival_kept a.w a.numbers.now a.values.now (held_if a.keep) (arrival a.slot a.p) now (moved (lent a.w a.numbers.now a.values.now) after) place
-    (rw c.if-keep.false (rejected_in a.w a.numbers.now a.values.now (place_within a.w a.numbers.now a.values.now place) a.slot a.p now after entered.ensures))
+    (rw c.if-holds.false (rejected_in a.w a.numbers.now a.values.now (place_within a.w a.numbers.now a.values.now place) a.slot a.p now after entered.ensures))

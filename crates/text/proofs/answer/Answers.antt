@@ -16,11 +16,11 @@ pub returns-then-out-lt-OUTPUT : goal.returns-then-out-lt-OUTPUT
 returns-then-out-lt-OUTPUT c = let a = c.args in
     answered_none a.read a.table.now a.out.now (short_out a.read a.table.now a.out.now c.if-table-ne-TABLE.false c.if-out-lt-OUTPUT.true)
 
-pub returns-then-count-gt-PACKETS : goal.returns-then-count-gt-PACKETS
-returns-then-count-gt-PACKETS c = let a = c.args in
-    let said = says_many a.read a.table.now a.out.now c.if-table-ne-TABLE.false c.if-out-lt-OUTPUT.false _ c.in-Read.is c.if-count-gt-PACKETS.true in
+pub returns-then-many : goal.returns-then-many
+returns-then-many c = let a = c.args in
+    let said = says_many a.read a.table.now a.out.now c.if-table-ne-TABLE.false c.if-out-lt-OUTPUT.false _ c.in-Read.is c.if-many.true in
     answered a.read a.table.now a.out.now _ _ _ said
-    (wrote_same (ap (λ (n : ℕ). refusal_text n 0) c.number-then-count-gt-PACKETS.ensures) refl (c.put_refusal-then-count-gt-PACKETS.ensures.fits (omega arith)))
+    (wrote_same (ap (λ (n : ℕ). refusal_text n 0) c.number-then-many.ensures) refl (c.put_refusal-then-many.ensures.fits (omega arith)))
 
 pub slice_bounds-run-end : goal.slice_bounds-run-end
 slice_bounds-run-end c = sym (length-take-le _ c.args.table.now (omega arith))
@@ -37,7 +37,7 @@ returns-in-TooMany c = let a = c.args in
     answered a.read a.table.now a.out.now _ _ _ said
     (wrote_same (ap (λ (n : ℕ). refusal_text n 0) c.number-in-TooMany.ensures) refl (c.put_refusal-in-TooMany.ensures.fits (omega arith)))
 
-pub returns-else-count-gt-PACKETS : goal.returns-else-count-gt-PACKETS
-returns-else-count-gt-PACKETS c = let a = c.args in
-    answered a.read a.table.now a.out.now _ _ _ (says_trace a.read a.table.now a.out.now c.if-table-ne-TABLE.false c.if-out-lt-OUTPUT.false _ c.in-Read.is c.if-count-gt-PACKETS.false)
+pub returns-else-many : goal.returns-else-many
+returns-else-many c = let a = c.args in
+    answered a.read a.table.now a.out.now _ _ _ (says_trace a.read a.table.now a.out.now c.if-table-ne-TABLE.false c.if-out-lt-OUTPUT.false _ c.in-Read.is c.if-many.false)
     (wrote_same (trace_spoken _ _ a.out.now c.if-out-lt-OUTPUT.false) refl c.run.ensures)

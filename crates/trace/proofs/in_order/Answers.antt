@@ -16,19 +16,19 @@ returns-then-not-lengths_equal c =
     let tests = order (verdict_of a.own) (ok_of a.taken) a.slots.now a.values.now a.room (lists_of a.fates.now a.whens.now a.bys.now) in
     ap verdict_of c.refused.ensures ∙ sym (tests.by_lengths (sym c.lengths_equal.ensures ∙ c.if-not-lengths_equal.true))
 
-pub returns-then-slots-gt-PACKETS : goal.returns-then-slots-gt-PACKETS
-returns-then-slots-gt-PACKETS c =
+pub returns-then-many : goal.returns-then-many
+returns-then-many c =
     let a = c.args in
     let tests = order (verdict_of a.own) (ok_of a.taken) a.slots.now a.values.now a.room (lists_of a.fates.now a.whens.now a.bys.now) in
     let equal = sym c.lengths_equal.ensures ∙ c.if-not-lengths_equal.false in
-    ap verdict_of c.refused-then-slots-gt-PACKETS.ensures ∙ sym (tests.by_packets equal (lt-leb _ _ c.if-slots-gt-PACKETS.true))
+    ap verdict_of c.refused-then-many.ensures ∙ sym (tests.by_packets equal (lt-leb _ _ c.if-many.true))
 
 pub returns-then-not-room_ok : goal.returns-then-not-room_ok
 returns-then-not-room_ok c =
     let a = c.args in
     let tests = order (verdict_of a.own) (ok_of a.taken) a.slots.now a.values.now a.room (lists_of a.fates.now a.whens.now a.bys.now) in
     let equal = sym c.lengths_equal.ensures ∙ c.if-not-lengths_equal.false in
-    let few = le-leb _ _ c.if-slots-gt-PACKETS.false in
+    let few = le-leb _ _ c.if-many.false in
     ap verdict_of c.refused-then-not-room_ok.ensures ∙ sym (tests.by_room equal few (sym c.room_ok.ensures ∙ c.if-not-room_ok.true))
 
 pub returns-in-Refused : goal.returns-in-Refused
@@ -36,7 +36,7 @@ returns-in-Refused c =
     let a = c.args in
     let tests = order (verdict_of a.own) (ok_of a.taken) a.slots.now a.values.now a.room (lists_of a.fates.now a.whens.now a.bys.now) in
     let equal = sym c.lengths_equal.ensures ∙ c.if-not-lengths_equal.false in
-    let few = le-leb _ _ c.if-slots-gt-PACKETS.false in
+    let few = le-leb _ _ c.if-many.false in
     let roomy = sym c.room_ok.ensures ∙ c.if-not-room_ok.false in
     ap verdict_of (sym c.in-Refused.is)
     ∙ sym (tests.by_own equal few roomy (ap (λ (v : Verdict). eqb v.number 0) (ap verdict_of c.in-Refused.is) ∙ cause_refuses c.in-Refused.refusal.cause))
@@ -54,6 +54,6 @@ returns c =
     let a = c.args in
     let tests = order (verdict_of a.own) (ok_of a.taken) a.slots.now a.values.now a.room (lists_of a.fates.now a.whens.now a.bys.now) in
     let equal = sym c.lengths_equal.ensures ∙ c.if-not-lengths_equal.false in
-    let few = le-leb _ _ c.if-slots-gt-PACKETS.false in
+    let few = le-leb _ _ c.if-many.false in
     let roomy = sym c.room_ok.ensures ∙ c.if-not-room_ok.false in
     c.packets_or_none.ensures ∙ sym (tests.by_none equal few roomy (ap verdict_of c.in_default.is))

@@ -5,7 +5,7 @@ use native.Mathlib.Omega.{arith}
 use Rattle.port.specs.State.{state_of}
 use Rattle.host.proofs.Hearing.{mixed_fits, heard_done, heard_end, heard_arrival}
 use Rattle.host.proofs.live.feed.Goals as goal
-use Rattle.host.proofs.live.feed.Goals.{else-event-eq-END, then-event-eq-END}
+use Rattle.host.proofs.live.feed.Goals.{else-ends, then-ends}
 
 pub loop-i-init : goal.loop-i-init
 loop-i-init c = (omega arith, omega arith, refl)
@@ -14,18 +14,18 @@ pub loop-i-preserved : goal.loop-i-preserved
 loop-i-preserved c = let loop = c in
     let events = loop.args.events.now in
     let i = loop.loop-i.i in
-    elim c.if-event-eq-END.branch [
-      | then-event-eq-END w ↦ (
+    elim c.if-ends.branch [
+      | then-ends w ↦ (
         omega arith,
         rw (w.sum-is, w.mix_slot-sum.ensures) (mixed_fits _ _ _ _ _ _),
         rw (w.left-is, w.sum-is)
-            (heard_end (state_of loop.loop-i.left) loop.loop-i.sum events i (omega arith) _ w.end_of_slot-end.ensures w.if-event-eq-END.true w.mix_slot-sum.ensures loop.loop-i.invariant.2),
+            (heard_end (state_of loop.loop-i.left) loop.loop-i.sum events i (omega arith) _ w.end_of_slot-end.ensures w.if-ends.true w.mix_slot-sum.ensures loop.loop-i.invariant.2),
       )
-      | else-event-eq-END w ↦ (
+      | else-ends w ↦ (
         omega arith,
         rw (w.sum-is, w.mix_arrival-sum.ensures) (mixed_fits _ _ _ _ _ _),
         rw (w.left-is, w.sum-is)
-            (heard_arrival (state_of loop.loop-i.left) loop.loop-i.sum events i (omega arith) _ w.arrive-arrival.ensures w.if-event-eq-END.false w.mix_arrival-sum.ensures loop.loop-i.invariant.2),
+            (heard_arrival (state_of loop.loop-i.left) loop.loop-i.sum events i (omega arith) _ w.arrive-arrival.ensures w.if-ends.false w.mix_arrival-sum.ensures loop.loop-i.invariant.2),
       )
     ]
 

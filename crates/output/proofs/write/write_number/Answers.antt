@@ -14,16 +14,16 @@ slice_bounds-write_bytes-end c = simp length-set (omega arith)
 pub write_bytes-requires : goal.write_bytes-requires
 write_bytes-requires c = let loop = c in
     let a = c.args in
-    let e = digits_part a.number _ loop.loop-i.left loop.loop-i.i loop.loop-i.invariant.2 (omega arith) (omega arith) loop.loop-i.invariant.3 c.if-left-lt10.true in
+    let e = digits_part a.number _ loop.loop-i.left loop.loop-i.i loop.loop-i.invariant.2 (omega arith) (omega arith) loop.loop-i.invariant.3 c.if-last.true in
     omega (arith, ap length e, decimal_length a.number, ap length loop.loop-i.invariant.0)
 
-pub shape_of-out-then-left-lt10 : goal.shape_of-out-then-left-lt10
-shape_of-out-then-left-lt10 c = c.write_bytes.auto.out ∙ ap length c.loop-i.invariant.0
+pub shape_of-out-then-last : goal.shape_of-out-then-last
+shape_of-out-then-last c = c.write_bytes.auto.out ∙ ap length c.loop-i.invariant.0
 
-pub returns-then-left-lt10 : goal.returns-then-left-lt10
-returns-then-left-lt10 c = let loop = c in
+pub returns-then-last : goal.returns-then-last
+returns-then-last c = let loop = c in
     let a = c.args in
-    wrote_same (digits_part a.number _ loop.loop-i.left loop.loop-i.i loop.loop-i.invariant.2 (omega arith) (omega arith) loop.loop-i.invariant.3 c.if-left-lt10.true) loop.loop-i.invariant.0 c.write_bytes.ensures
+    wrote_same (digits_part a.number _ loop.loop-i.left loop.loop-i.i loop.loop-i.invariant.2 (omega arith) (omega arith) loop.loop-i.invariant.3 c.if-last.true) loop.loop-i.invariant.0 c.write_bytes.ensures
 
 pub loop-i-preserved : goal.loop-i-preserved
 loop-i-preserved c = let loop = c in
@@ -31,7 +31,7 @@ loop-i-preserved c = let loop = c in
       loop.loop-i.invariant.0,
       omega arith,
       simp length-set loop.loop-i.invariant.2,
-      digits_more a.number _ loop.loop-i.left loop.loop-i.i loop.loop-i.invariant.2 (omega arith) (omega arith) loop.loop-i.invariant.3 c.if-left-lt10.false,
+      digits_more a.number _ loop.loop-i.left loop.loop-i.i loop.loop-i.invariant.2 (omega arith) (omega arith) loop.loop-i.invariant.3 c.if-last.false,
     )
 
 pub write_bytes-requires-2 : goal.write_bytes-requires-2

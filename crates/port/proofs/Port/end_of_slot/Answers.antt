@@ -15,13 +15,13 @@ use Rattle.port.proofs.Port.end_of_slot.Goals as goal
 pub returns-then-not-is_sound : goal.returns-then-not-is_sound
 returns-then-not-is_sound c = slot_unsound (state_of c.args.self) (sym c.is_sound.ensures ∙ c.if-not-is_sound.true)
 
-pub returns-then-self-eq0 : goal.returns-then-self-eq0
-returns-then-self-eq0 c = slot_idle (state_of c.args.self) (sym c.is_sound.ensures ∙ c.if-not-is_sound.false) c.if-self-eq0.true
+pub returns-then-idle : goal.returns-then-idle
+returns-then-idle c = slot_idle (state_of c.args.self) (sym c.is_sound.ensures ∙ c.if-not-is_sound.false) c.if-idle.true
 
 pub take-sent-requires : goal.take-sent-requires
 take-sent-requires c =
     let P = whole_placed c.args.self c.well_formed.0 (sym c.is_sound.ensures ∙ c.if-not-is_sound.false) in
-    record { placed = P.1; held_le_room = P.0; place_lt_held = omega (arith, c.if-self-eq0.false) }
+    record { placed = P.1; held_le_room = P.0; place_lt_held = omega (arith, c.if-idle.false) }
 
 pub returns : goal.returns
 returns c =
@@ -30,4 +30,4 @@ returns c =
     let P = whole_placed c.args.self c.well_formed.0 sounds in
     let take = c.take-sent.ensures in
     ap₂ (λ (sent : Packet) (after : PortState). record { reply = of_slot (Sent sent); port = after }) take.packet take.left
-    ∙ slot_sends port sounds (omega (arith, c.if-self-eq0.false, held_length port P.1))
+    ∙ slot_sends port sounds (omega (arith, c.if-idle.false, held_length port P.1))

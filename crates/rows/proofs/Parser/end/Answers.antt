@@ -10,12 +10,12 @@ pub returns-then-self : goal.returns-then-self
 returns-then-self c = rw (finished_by_lem c.args.header.now (state c.args.self c.args.table.now) _ c.if-self.true _ (refl)) (ap (λ (p : Parser). state p c.args.table.now) c.spoiled.ensures)
 
 pub returns-then-self-eq1 : goal.returns-then-self-eq1
-returns-then-self-eq1 c = rw (finished_by_lem c.args.header.now (state c.args.self c.args.table.now) _ c.if-self.false _ (sym c.is_at_start.ensures ∙ c.if-is_at_start.true), eq-eqb _ _ c.if-self-eq1.true)
+returns-then-self-eq1 c = rw (finished_by_lem c.args.header.now (state c.args.self c.args.table.now) _ c.if-self.false _ (sym c.is_at_start-nothing.ensures ∙ c.if-nothing.true), eq-eqb _ _ c.if-self-eq1.true)
     c.end_line.ensures
 
-pub returns-then-is_at_start : goal.returns-then-is_at_start
-returns-then-is_at_start c = rw (finished_by_lem c.args.header.now (state c.args.self c.args.table.now) _ c.if-self.false _ (sym c.is_at_start.ensures ∙ c.if-is_at_start.true), ne_eqb _ _ c.if-self-eq1.false) refl
+pub returns-then-nothing : goal.returns-then-nothing
+returns-then-nothing c = rw (finished_by_lem c.args.header.now (state c.args.self c.args.table.now) _ c.if-self.false _ (sym c.is_at_start-nothing.ensures ∙ c.if-nothing.true), ne_eqb _ _ c.if-self-eq1.false) refl
 
 pub returns : goal.returns
-returns c = rw (finished_by_lem c.args.header.now (state c.args.self c.args.table.now) _ c.if-self.false _ (sym c.is_at_start.ensures ∙ c.if-is_at_start.false))
+returns c = rw (finished_by_lem c.args.header.now (state c.args.self c.args.table.now) _ c.if-self.false _ (sym c.is_at_start-nothing.ensures ∙ c.if-nothing.false))
     c.end_line-2.ensures

@@ -4,11 +4,11 @@ use native.Mathlib.Omega.{arith}
 use Rattle.steps.proofs.Windows.{window_cons, window_none}
 use Rattle.steps.proofs.held.oldest.Goals as goal
 
-pub returns-then-head-tail : goal.returns-then-head-tail
-returns-then-head-tail c = let start = c in
+pub returns-then-some : goal.returns-then-some
+returns-then-some c = let start = c in
     let a = start.args in
     rw (window_cons a.head a.tail a.numbers.now a.values.now start.requires (omega arith)) refl
 
-pub returns-else-head-tail : goal.returns-else-head-tail
-returns-else-head-tail c = let a = c.args in
+pub returns-else-some : goal.returns-else-some
+returns-else-some c = let a = c.args in
     rw (window_none a.head a.tail a.numbers.now a.values.now c.requires (omega arith)) refl

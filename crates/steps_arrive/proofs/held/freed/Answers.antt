@@ -4,8 +4,8 @@ use Rattle.steps_arrive.proofs.Placing.{open_here, open_start}
 use borrow.Author.Rules.{rules}
 use Rattle.steps_arrive.proofs.held.freed.Goals as goal
 
-pub returns-then-tail-values : goal.returns-then-tail-values
-returns-then-tail-values c = let start = c in
+pub returns-then-free : goal.returns-then-free
+returns-then-free c = let start = c in
     let a = start.args in
     (open_here a.w a.numbers.now a.values.now start.requires.within (omega arith), omega arith)
 
