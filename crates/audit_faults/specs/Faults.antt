@@ -1,6 +1,7 @@
 -- Faults 12, 13 and 14 of one packet, from its entry and the when of the last packet sent before it.
-use Rattle.std.specs.Prelude.{ℕ, Bool, cond, ◌&&◌, List, length, leb}
+use Rattle.std.specs.Prelude.{ℕ, Bool, cond, ◌&&◌, Option, Some, None, List, length, leb}
 use Rattle.model.specs.declared.Fate.TheVariants.{Sent}
+use Rattle.model.specs.declared.Fault.{Fault}
 use Rattle.model.specs.declared.Fault.TheVariants.{ByWrong, WhenWrong, NotLater}
 use Rattle.model.specs.declared.PacketNumber.{PacketNumber}
 use Rattle.model.specs.declared.Slot.{Slot}
@@ -8,8 +9,6 @@ use Rattle.model.specs.Record.{Row}
 use Rattle.model.specs.Rules.{Verdict, clear, or_else, fault_if, has_fate, by_wrong, when_wrong}
 use Rattle.model.specs.Numbers.{fate_number, fault_number}
 use Rattle.audit_faults.specs.declared.FatedRow.{FatedRow}
-use Rattle.audit_faults.specs.declared.Found.{Found}
-use Rattle.audit_faults.specs.declared.Found.TheVariants as found
 
 -- the row, its fate as a number
 abbrev pub row_of : FatedRow → Row
@@ -31,6 +30,6 @@ row_fault slots last r =
     (or_else (fault_if (when_wrong slots r) WhenWrong r) (fault_if (not_after last r) NotLater r))
 
 -- what was found at a packet
-abbrev pub found_of : Found → PacketNumber → Verdict
-found_of found.Nothing n = clear
-found_of (found.Fault f) n = record { number = fault_number f; place = n.0 }
+abbrev pub found_of : Option Fault → PacketNumber → Verdict
+found_of None n = clear
+found_of (Some f) n = record { number = fault_number f; place = n.0 }

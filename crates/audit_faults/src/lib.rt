@@ -21,54 +21,46 @@ pub struct FatedRow {
     pub by: PacketNumber,
 }
 
-// The first fault of one packet.
-#[derive(Clone, Copy)]
-pub enum Found {
-    Nothing,
-    Fault(Fault),
-}
-
 // The by of a packet that was lost or flushed is that of a later packet of the trace.
+#[tactic(auto, unfolding(model::specs::Limits::within))]
 fn by_later(packets: usize, row: FatedRow) -> bool
     ensures { result ≡ within (suc row.number.0) packets row.by.0 }
 {
     row.number.0 < row.by.0 && row.by.0 as usize <= packets
 }
 
+#[tactic(auto, unfolding(model::specs::Rules::by_wrong, model::specs::Rules::at_fate, model::specs::Rules::has_fate))]
 fn by_wrong(packets: usize, row: FatedRow) -> bool
     ensures { result ≡ by_wrong packets (row_of row) }
 {
-    let fate = row.fate;
-    match fate {
+    match row.fate {
         Fate::Sent => row.by.0 != 0,
         Fate::Rejected => row.by.0 != row.number.0,
-        Fate::PushedOut => !by_later(packets, row),
-        Fate::Preempted => !by_later(packets, row),
-        Fate::Flushed => !by_later(packets, row),
+        Fate::PushedOut | Fate::Preempted | Fate::Flushed => !by_later(packets, row),
     }
 }
 
+#[tactic(auto, unfolding(model::specs::Rules::when_wrong, model::specs::Rules::at_fate, model::specs::Rules::has_fate))]
 fn when_wrong(slots: &[u32], row: FatedRow) -> bool
     ensures { result ≡ when_wrong slots.now (row_of row) }
 {
-    let fate = row.fate;
-    match fate {
+    match row.fate {
         Fate::Sent => row.when.0 < row.slot.0,
         Fate::Rejected => row.when.0 != row.slot.0,
-        Fate::PushedOut => row.when.0 != slot_of(slots, row.by).0,
-        Fate::Preempted => row.when.0 != slot_of(slots, row.by).0,
+        Fate::PushedOut | Fate::Preempted => row.when.0 != slot_of(slots, row.by).0,
         Fate::Flushed => row.when.0 < slot_of(slots, row.by).0,
     }
 }
 
+#[tactic(auto, unfolding(model::specs::Rules::has_fate))]
 fn is_sent(row: FatedRow) -> bool
     ensures { result ≡ has_fate Fate.Sent (row_of row) }
 {
-    let fate = row.fate;
-    fate.number() == Fate::Sent.number()
+    row.fate == Fate::Sent
 }
 
 // The when of the last packet sent, this one included; 0 where none was.
+#[tactic(auto, unfolding(crate::specs::Faults::last_of))]
 pub fn last_of(last: Slot, row: FatedRow) -> Slot
     ensures { result ≡ last_of last (row_of row) }
 {
@@ -78,30 +70,28 @@ pub fn last_of(last: Slot, row: FatedRow) -> Slot
     last
 }
 
+#[tactic(auto, unfolding(crate::specs::Faults::not_after))]
 fn not_later(last: Slot, row: FatedRow) -> bool
     ensures { result ≡ not_after last.0 (row_of row) }
 {
-    if !is_sent(row) {
-        return false;
-    }
-    row.when.0 <= last.0
+    is_sent(row) && row.when.0 <= last.0
 }
 
 // Faults 12, 13 and 14 of one packet, in this order.
 #[tactic(auto, unfolding(model::specs::Rules::or_else))]
-pub fn fault_of(slots: &[u32], last: Slot, row: FatedRow) -> Found
+pub fn fault_of(slots: &[u32], last: Slot, row: FatedRow) -> Option<Fault>
     ensures { found_of result row.number ≡ row_fault slots.now last.0 (row_of row) }
 {
     if by_wrong(slots.len(), row) {
-        return Found::Fault(Fault::ByWrong);
+        return Some(Fault::ByWrong);
     }
     let wrong = when_wrong(slots, row);
     let late = not_later(last, row);
     if wrong {
-        return Found::Fault(Fault::WhenWrong);
+        return Some(Fault::WhenWrong);
     }
     if late {
-        return Found::Fault(Fault::NotLater);
+        return Some(Fault::NotLater);
     }
-    Found::Nothing
+    None
 }

@@ -61,7 +61,7 @@ pub fn enter(
     ensures { lists_of fates.new whens.new bys.new ≡ entering (entry number fate when by) (lists_before fates whens bys) }
 {
     let place = place_of(number);
-    put(fates, place, fate.number());
+    put(fates, place, fate.into());
     put(whens, place, when.0);
     put(bys, place, by.0);
 }

@@ -1,5 +1,6 @@
 -- 01's numbers of the fates, the refusals and the faults, each written once. All definitions cite them by name.
-use Rattle.std.specs.Prelude.{ℕ}
+use Rattle.std.specs.Prelude.{ℕ, ◌≡◌, false, Result, Ok, Err}
+use Rattle.model.specs.Limits.{within}
 use Rattle.model.specs.declared.Fate.{Fate}
 use Rattle.model.specs.declared.Fate.TheVariants as fates
 use Rattle.model.specs.declared.Cause.{Cause}
@@ -34,3 +35,8 @@ fault_number faults.ByWrong = 12
 fault_number faults.WhenWrong = 13
 fault_number faults.NotLater = 14
 fault_number faults.OverRoom = 15
+
+-- what a number in a record names: the fate whose number it is, or none, which is fault 11
+abbrev pub Names : ℕ → Result Fate Fault → Type 0
+Names n (Ok fate) = n ≡ fate_number fate
+Names n (Err fault) = (within (fate_number fates.Sent) (fate_number fates.Flushed) n ≡ false) × (fault ≡ faults.FateOutside)

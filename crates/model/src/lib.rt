@@ -3,8 +3,9 @@
 
 ghost use Rattle.std.specs.Prelude.{◌≡◌};
 ghost use Rattle.model.specs.Limits.{record_limits};
-ghost use Rattle.model.specs.Numbers.{fate_number, cause_number, fault_number};
+ghost use Rattle.model.specs.Numbers.{fate_number, cause_number, fault_number, Names};
 ghost use Rattle.model.specs.Record.{loss_fate};
+ghost use Rattle.model.specs.declared.AuditError.TheVariants.{Faulty, Refused};
 ghost use Rattle.model.specs.Totals.{no_totals};
 ghost use Rattle.model.specs.Packets.{nobody as no_packet};
 
@@ -58,7 +59,7 @@ pub struct Marking {
 }
 
 // What can become of a packet.
-#[derive(Clone, Copy)]
+#[derive(Clone, Copy, PartialEq, Eq)]
 pub enum Fate {
     Sent,
     Rejected,
@@ -67,17 +68,36 @@ pub enum Fate {
     Flushed,
 }
 
-impl Fate {
-    // 01's number of a fate.
-    pub fn number(self) -> u32
-        ensures { result ≡ fate_number self }
-    {
-        match self {
+// 01's number of a fate.
+impl From<Fate> for u32 {
+    ghost from_gives = { λ fate n. n ≡ fate_number fate };
+
+    fn from(fate: Fate) -> u32 {
+        match fate {
             Fate::Sent => 1,
             Fate::Rejected => 2,
             Fate::PushedOut => 3,
             Fate::Preempted => 4,
             Fate::Flushed => 5,
+        }
+    }
+}
+
+// The fate of a number in a record; fault 11 where it has none.
+impl TryFrom<u32> for Fate {
+    type Error = Fault;
+
+    ghost try_from_gives = { Names };
+
+    #[tactic(auto, unfolding(crate::specs::Limits::within))]
+    fn try_from(number: u32) -> Result<Fate, Fault> {
+        match number {
+            1 => Ok(Fate::Sent),
+            2 => Ok(Fate::Rejected),
+            3 => Ok(Fate::PushedOut),
+            4 => Ok(Fate::Preempted),
+            5 => Ok(Fate::Flushed),
+            _ => Err(Fault::FateOutside),
         }
     }
 }
@@ -168,12 +188,12 @@ pub enum Cause {
     Text,
 }
 
-impl Cause {
-    // 01's number of a refusal.
-    pub fn number(self) -> u32
-        ensures { result ≡ cause_number self }
-    {
-        match self {
+// 01's number of a refusal.
+impl From<Cause> for u32 {
+    ghost from_gives = { λ cause n. n ≡ cause_number cause };
+
+    fn from(cause: Cause) -> u32 {
+        match cause {
             Cause::Lengths => 1,
             Cause::Packets => 2,
             Cause::Room => 3,
@@ -204,12 +224,12 @@ pub enum Fault {
     OverRoom,
 }
 
-impl Fault {
-    // 01's number of a fault.
-    pub fn number(self) -> u32
-        ensures { result ≡ fault_number self }
-    {
-        match self {
+// 01's number of a fault.
+impl From<Fault> for u32 {
+    ghost from_gives = { λ fault n. n ≡ fault_number fault };
+
+    fn from(fault: Fault) -> u32 {
+        match fault {
             Fault::FateOutside => 11,
             Fault::ByWrong => 12,
             Fault::WhenWrong => 13,
@@ -233,12 +253,12 @@ pub enum LossKind {
     Preempted,
 }
 
-impl LossKind {
-    // The fate that such a loss is.
-    pub fn fate(self) -> Fate
-        ensures { result ≡ loss_fate self }
-    {
-        match self {
+// The fate that such a loss is.
+impl From<LossKind> for Fate {
+    ghost from_gives = { λ kind fate. fate ≡ loss_fate kind };
+
+    fn from(kind: LossKind) -> Fate {
+        match kind {
             LossKind::PushedOut => Fate::PushedOut,
             LossKind::Preempted => Fate::Preempted,
         }
@@ -274,19 +294,27 @@ pub struct PortReply {
     pub packet: Packet,
 }
 
-// What a policy or the offline plan answers.
+// Why an audit does not pass: its first fault, or a refusal.
 #[derive(Clone, Copy)]
-pub enum RunAnswer {
-    Ran(Totals),
+pub enum AuditError {
+    Faulty(FirstFault),
     Refused(Refusal),
 }
 
-// What the audit answers. Where it names a fault its totals are all 0.
-#[derive(Clone, Copy)]
-pub enum AuditAnswer {
-    Passed(Totals),
-    Faulty(FirstFault),
-    Refused(Refusal),
+impl From<FirstFault> for AuditError {
+    ghost from_gives = { λ fault e. e ≡ Faulty fault };
+
+    fn from(fault: FirstFault) -> AuditError {
+        AuditError::Faulty(fault)
+    }
+}
+
+impl From<Refusal> for AuditError {
+    ghost from_gives = { λ refusal e. e ≡ Refused refusal };
+
+    fn from(refusal: Refusal) -> AuditError {
+        AuditError::Refused(refusal)
+    }
 }
 
 // What a live arrival answers, with the number that the packet was given.
@@ -295,20 +323,4 @@ pub enum ArrivalAnswer {
     Held(PacketNumber),
     HeldLosing(PacketNumber, Loss),
     Rejected(PacketNumber),
-    Refused(Refusal),
-}
-
-// What a live end of slot answers.
-#[derive(Clone, Copy)]
-pub enum SlotAnswer {
-    Sent(Packet),
-    Idle,
-    Refused(Refusal),
-}
-
-// What the making of a port answers.
-#[derive(Clone, Copy)]
-pub enum MakingAnswer {
-    Made,
-    Refused(Refusal),
 }

@@ -7,8 +7,7 @@ ghost use Rattle.model.specs.Calls.{reply_to};
 ghost use Rattle.model.specs.Answers.{of_run, of_audit, of_arrival, of_slot, of_making, port_says, port_refused};
 
 use model::{
-    ArrivalAnswer, AuditAnswer, Fate, MakingAnswer, Packet, PacketNumber, PortReply, Refusal,
-    Reply, RunAnswer, SlotAnswer, Totals,
+    ArrivalAnswer, AuditError, Fate, Packet, PacketNumber, PortReply, Refusal, Reply, Totals,
 };
 
 // A live call that was not refused.
@@ -27,10 +26,9 @@ fn says(number: u32, given: PacketNumber, packet: Packet) -> PortReply
 fn refused(refusal: Refusal) -> Reply
     ensures { result ≡ reply_to (record { number = cause_number refusal.cause; place = refusal.place }) }
 {
-    let cause = refusal.cause;
     let place = refusal.place;
     Reply {
-        number: cause.number(),
+        number: refusal.cause.into(),
         place,
         totals: Totals::none(),
     }
@@ -40,9 +38,8 @@ fn refused(refusal: Refusal) -> Reply
 fn refused_live(refusal: Refusal) -> PortReply
     ensures { result ≡ port_refused (cause_number refusal.cause) refusal.place }
 {
-    let cause = refusal.cause;
     PortReply {
-        number: cause.number(),
+        number: refusal.cause.into(),
         place: refusal.place,
         given: PacketNumber(0),
         packet: Packet::nobody(),
@@ -50,74 +47,69 @@ fn refused_live(refusal: Refusal) -> PortReply
 }
 
 // What a run or the plan says.
-pub fn of_run(answer: RunAnswer) -> Reply
+pub fn of_run(answer: Result<Totals, Refusal>) -> Reply
     ensures { result ≡ of_run answer }
 {
     match answer {
-        RunAnswer::Ran(totals) => Reply {
+        Ok(totals) => Reply {
             number: 0,
             place: 0,
             totals,
         },
-        RunAnswer::Refused(refusal) => refused(refusal),
+        Err(refusal) => refused(refusal),
     }
 }
 
 // What the audit says.
-pub fn of_audit(answer: AuditAnswer) -> Reply
+pub fn of_audit(answer: Result<Totals, AuditError>) -> Reply
     ensures { result ≡ of_audit answer }
 {
     match answer {
-        AuditAnswer::Passed(totals) => Reply {
+        Ok(totals) => Reply {
             number: 0,
             place: 0,
             totals,
         },
-        AuditAnswer::Faulty(first) => {
-            let fault = first.fault;
-            Reply {
-                number: fault.number(),
-                place: first.packet.0,
-                totals: Totals::none(),
-            }
-        }
-        AuditAnswer::Refused(refusal) => refused(refusal),
+        Err(AuditError::Faulty(first)) => Reply {
+            number: first.fault.into(),
+            place: first.packet.0,
+            totals: Totals::none(),
+        },
+        Err(AuditError::Refused(refusal)) => refused(refusal),
     }
 }
 
 // What a live arrival says.
-pub fn of_arrival(answer: ArrivalAnswer) -> PortReply
+pub fn of_arrival(answer: Result<ArrivalAnswer, Refusal>) -> PortReply
     ensures { result ≡ of_arrival answer }
 {
     match answer {
-        ArrivalAnswer::Held(given) => says(0, given, Packet::nobody()),
-        ArrivalAnswer::HeldLosing(given, loss) => {
-            let kind = loss.kind;
-            let fate = kind.fate();
-            says(fate.number(), given, loss.packet)
+        Ok(ArrivalAnswer::Held(given)) => says(0, given, Packet::nobody()),
+        Ok(ArrivalAnswer::HeldLosing(given, loss)) => {
+            says(Fate::from(loss.kind).into(), given, loss.packet)
         }
-        ArrivalAnswer::Rejected(given) => says(Fate::Rejected.number(), given, Packet::nobody()),
-        ArrivalAnswer::Refused(refusal) => refused_live(refusal),
+        Ok(ArrivalAnswer::Rejected(given)) => says(Fate::Rejected.into(), given, Packet::nobody()),
+        Err(refusal) => refused_live(refusal),
     }
 }
 
 // What a live end of slot says.
-pub fn of_slot(answer: SlotAnswer) -> PortReply
+pub fn of_slot(answer: Result<Option<Packet>, Refusal>) -> PortReply
     ensures { result ≡ of_slot answer }
 {
     match answer {
-        SlotAnswer::Sent(packet) => says(Fate::Sent.number(), PacketNumber(0), packet),
-        SlotAnswer::Idle => says(0, PacketNumber(0), Packet::nobody()),
-        SlotAnswer::Refused(refusal) => refused_live(refusal),
+        Ok(Some(packet)) => says(Fate::Sent.into(), PacketNumber(0), packet),
+        Ok(None) => says(0, PacketNumber(0), Packet::nobody()),
+        Err(refusal) => refused_live(refusal),
     }
 }
 
 // What the making of a port says.
-pub fn of_making(answer: MakingAnswer) -> PortReply
+pub fn of_making(answer: Result<(), Refusal>) -> PortReply
     ensures { result ≡ of_making answer }
 {
     match answer {
-        MakingAnswer::Made => says(0, PacketNumber(0), Packet::nobody()),
-        MakingAnswer::Refused(refusal) => refused_live(refusal),
+        Ok(()) => says(0, PacketNumber(0), Packet::nobody()),
+        Err(refusal) => refused_live(refusal),
     }
 }

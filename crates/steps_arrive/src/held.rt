@@ -84,7 +84,7 @@ pub fn replace(
     let at = w.head + place;
     let number = numbers[at];
     let lost = PacketNumber(number);
-    enter(fates, whens, bys, lost, kind.fate(), slot, p.number);
+    enter(fates, whens, bys, lost, kind.into(), slot, p.number);
     let rest = lose(numbers, values, w, place);
     hold(numbers, values, rest, p)
 }

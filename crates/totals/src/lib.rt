@@ -41,7 +41,7 @@ fn tally_of(values: &[u32], fates: &[u32], fate: Fate) -> Tally
     requires { Countable values.now fates.now }
     ensures { result ≡ tally_by values.now fates.now fate }
 {
-    let number = fate.number();
+    let number = u32::from(fate);
     let mut count = 0;
     let mut value = 0;
     let mut i = 0;

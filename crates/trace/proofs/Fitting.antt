@@ -14,8 +14,8 @@ use Rattle.model.specs.Port.{all}
 use Rattle.model.specs.Rules.{clear, or_else}
 use Rattle.model.specs.Refusals.{slot_ok, value_ok, packet_refusal, packet_refusal_from}
 use Rattle.checks.proofs.Tests.{all_each}
-use Rattle.trace.specs.declared.Values.{Values}
-use Rattle.trace.specs.declared.Values.TheVariants.{InRange}
+use Rattle.model.specs.declared.Marking.{Marking}
+use Rattle.std.specs.Prelude.{Option, None}
 use Rattle.trace.specs.Checked.{ok_of}
 use Rattle.trace.specs.Fitting.{SlotsFit}
 
@@ -39,13 +39,9 @@ walk_clear ok before n (slot ∷ slots) (value ∷ values) l s v =
     rw (s 0 (omega arith), v 0 (omega arith))
     (walk_clear ok slot (suc n) slots values (omega arith) (λ k h. s (suc k) (suc-le-suc h)) (λ k h. v (suc k) (suc-le-suc h)))
 
-pub plain_clear : {taken : Values} (slots values : List ℕ) → taken ≡ InRange → length values ≡ length slots → SlotsFit slots (length slots)
+pub plain_clear : {taken : Option Marking} (slots values : List ℕ) → taken ≡ None → length values ≡ length slots → SlotsFit slots (length slots)
     → all value_ok values ≡ true → packet_refusal (ok_of taken) slots values ≡ clear
 plain_clear slots values is l s v = rw is (walk_clear value_ok 0 1 slots values l s (all_each value_ok values v))
-
--- where a test says no, nothing is claimed
-pub no_claim : {P : Type 0} → false ≡ true → P
-no_claim e = absurd (let z : ◌≡◌ {A = ℕ} 0 1 = cc in omega arith)
 
 pub slots_more : (slots : List ℕ) (i last : ℕ) {bad bad' : Bool} → last ≡ get_or (0 ∷ slots) i 0 → (bad ≡ false → SlotsFit slots i)
     → bad' ≡ (bad || ltb (get_or slots i 0) 1 || ltb record_limits.slot (get_or slots i 0) || ltb (get_or slots i 0) last)

@@ -6,7 +6,7 @@ use mathlib.Core.Bool.{Bool, true, false}
 use mathlib.Core.List.{List}
 use lib.ListN.{length, get_or, drop, drop_of_length-le}
 use lib.Seq.{drop-cons}
-use lib.Dec.{leb, eqb}
+use lib.Dec.{eqb}
 use native.Mathlib.Omega.{arith}
 use native.Mathlib.Numerals.{add-one}
 use Rattle.model.specs.declared.Slot.{Slot}
@@ -15,19 +15,15 @@ use Rattle.model.specs.declared.Cause.TheVariants as causes
 use Rattle.model.specs.Answers.{cause_number}
 use Rattle.model.specs.Packets.{arrivals_from}
 use Rattle.model.specs.Rules.{Verdict, clear, or_else}
-use Rattle.model.specs.Limits.{record_limits}
-use Rattle.model.specs.Refusals.{room_ok, slot_ok, value_ok, packet_refusal, packet_refusal_from, trace_refusal}
-use Rattle.trace.specs.declared.Values.{Values}
-use Rattle.trace.specs.declared.Values.TheVariants.{InRange, LoOrHi}
-use Rattle.model.specs.Record.{Lists}
-use Rattle.trace.specs.Checked.{ok_of, lengths_equal}
-use borrow.Author.Tests.{eqb-true}
-use Rattle.checks.proofs.Tests.{left_part}
+use Rattle.model.specs.Refusals.{slot_ok, value_ok, packet_refusal_from}
+use Rattle.model.specs.declared.Marking.{Marking}
+use Rattle.std.specs.Prelude.{Option, Some, None}
+use Rattle.trace.specs.Checked.{ok_of}
 
 -- a call takes no value that is out of range
-pub refuses : (taken : Values) (v : ℕ) → value_ok v ≡ false → ok_of taken v ≡ false
-refuses InRange v e = e
-refuses (LoOrHi marking) v e = rw e
+pub refuses : (taken : Option Marking) (v : ℕ) → value_ok v ≡ false → ok_of taken v ≡ false
+refuses None v e = e
+refuses (Some marking) v e = rw e
 
 -- what the walk answers from the packet at place i on
 abbrev pub rest_from : (ℕ → Bool) → List ℕ → List ℕ → Slot → ℕ → Verdict
@@ -57,37 +53,6 @@ turn ok slots values before i lengths h e f =
 pub turn_none : (ok : ℕ → Bool) (slots values : List ℕ) (before : Slot) (i : ℕ) → length slots ≤ i → rest_from ok slots values before i ≡ clear
 unfolding packet_refusal_from arrivals_from
 turn_none ok slots values before i h = rw (drop_of_length-le slots)
-
--- a refusal with no place
-abbrev refusal : ℕ → Verdict
-refusal number = record { number = number; place = 0 }
-
--- the first of the tests that fails gives the answer
-pub record Order (own : Verdict) (ok : ℕ → Bool) (slots values : List ℕ) (room : ℕ) (lists : Lists) (answer : Verdict) : Type 0 where
-  pub by_lengths : lengths_equal slots values lists ≡ false → answer ≡ refusal 1
-  pub by_packets : lengths_equal slots values lists ≡ true → leb (length slots) record_limits.packets ≡ false → answer ≡ refusal 2
-  pub by_room : lengths_equal slots values lists ≡ true → leb (length slots) record_limits.packets ≡ true → room_ok room ≡ false
-      → answer ≡ refusal 3
-  pub by_own : lengths_equal slots values lists ≡ true → leb (length slots) record_limits.packets ≡ true → room_ok room ≡ true → eqb own.number 0 ≡ false
-      → answer ≡ own
-  pub by_none : lengths_equal slots values lists ≡ true → leb (length slots) record_limits.packets ≡ true → room_ok room ≡ true → own ≡ clear
-      → answer ≡ packet_refusal ok slots values
-
-pub order : (own : Verdict) (ok : ℕ → Bool) (slots values : List ℕ) (room : ℕ) (lists : Lists)
-    → Order own ok slots values room lists (trace_refusal own ok slots values room lists)
-unfolding or_else
-order own ok slots values room lists =
-    record {
-      by_lengths = λ a. rw a;
-      by_packets = λ a b. rw (a, b);
-      by_room = λ a b c. rw (a, b, c);
-      by_own = λ a b c d. rw (a, b, c, d);
-      by_none = λ a b c d. rw (a, b, c, d);
-    }
-
--- equal lengths, of which that of the values is the first
-pub values_length : (slots values : List ℕ) (lists : Lists) → lengths_equal slots values lists ≡ true → length values ≡ length slots
-values_length slots values lists e = eqb-true _ _ (left_part _ _ (left_part _ _ (left_part _ _ e)))
 
 -- a refusal's number is not 0
 pub cause_refuses : (cause : Cause) → eqb (cause_number cause) 0 ≡ false

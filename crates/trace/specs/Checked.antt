@@ -1,24 +1,22 @@
 -- What the answer of a trace's test says in 01's numbers, and how the parts of a call are read as model's definitions have them.
-use Rattle.std.specs.Prelude.{ℕ, ◌≤◌, ◌≡◌, Bool, ◌&&◌, List, length, eqb}
+use Rattle.std.specs.Prelude.{ℕ, ◌≤◌, ◌≡◌, ⊤, Bool, ◌&&◌, Option, Some, None, Result, Ok, Err, List, length, eqb}
 use Rattle.model.specs.Limits.{record_limits}
 use Rattle.model.specs.Record.{Lists}
 use Rattle.model.specs.Rules.{Verdict, clear}
 use Rattle.model.specs.Refusals.{value_ok, lo_or_hi}
 use Rattle.model.specs.Numbers.{cause_number}
-use Rattle.trace.specs.declared.Checked.{Checked}
-use Rattle.trace.specs.declared.Checked.TheVariants.{Accepted, Refused}
-use Rattle.trace.specs.declared.Values.{Values}
-use Rattle.trace.specs.declared.Values.TheVariants.{InRange, LoOrHi}
+use Rattle.model.specs.declared.Marking.{Marking}
+use Rattle.model.specs.declared.Refusal.{Refusal}
 
 -- accepted is clear; a refusal is its number and its place
-abbrev pub verdict_of : Checked → Verdict
-verdict_of Accepted = clear
-verdict_of (Refused f) = record { number = cause_number f.cause; place = f.place }
+abbrev pub verdict_of : Result ⊤ Refusal → Verdict
+verdict_of (Ok _) = clear
+verdict_of (Err f) = record { number = cause_number f.cause; place = f.place }
 
--- which values a call takes
-abbrev pub ok_of : Values → ℕ → Bool
-ok_of InRange v = value_ok v
-ok_of (LoOrHi marking) v = lo_or_hi marking v
+-- which values a call takes: all in range, or under a marking only its lo and hi
+abbrev pub ok_of : Option Marking → ℕ → Bool
+ok_of None v = value_ok v
+ok_of (Some marking) v = lo_or_hi marking v
 
 -- all lists are as long as that of the slots
 abbrev pub lengths_equal : List ℕ → List ℕ → Lists → Bool

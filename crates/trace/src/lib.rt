@@ -12,20 +12,6 @@ use checks::ranges::{beta_ok, room_ok};
 use checks::{value_ok, values_ok};
 use model::{Beta, Cause, Marking, Record, Refusal, Slot};
 
-// What the test of a trace answers.
-#[derive(Clone, Copy)]
-pub enum Checked {
-    Accepted,
-    Refused(Refusal),
-}
-
-// Which values a call takes: all that are in range, or of these only lo and hi.
-#[derive(Clone, Copy)]
-enum Values {
-    InRange,
-    LoOrHi(Marking),
-}
-
 fn slot_ok(before: Slot, slot: Slot) -> bool
     ensures { result ≡ slot_ok before slot }
 {
@@ -38,28 +24,23 @@ fn slot_ok(before: Slot, slot: Slot) -> bool
     before.0 <= slot.0
 }
 
-fn value_taken(taken: Values, value: u32) -> bool
-    ensures { result ≡ ok_of taken value }
+// Whether a call takes a value: one in range, and under a marking only lo and hi.
+fn value_taken(marking: Option<Marking>, value: u32) -> bool
+    ensures { result ≡ ok_of marking value }
 {
     if !value_ok(value) {
         return false;
     }
-    match taken {
-        Values::InRange => true,
-        Values::LoOrHi(marking) => {
-            let lo = marking.lo;
-            let hi = marking.hi;
-            value == lo || value == hi
-        }
+    match marking {
+        None => true,
+        Some(Marking { lo, hi, .. }) => value == lo || value == hi,
     }
 }
 
 fn marking_ok(marking: Marking) -> bool
     ensures { result ≡ marking_ok marking }
 {
-    let lo = marking.lo;
-    let hi = marking.hi;
-    let r = marking.r;
+    let Marking { lo, hi, r } = marking;
     if !value_ok(lo) {
         return false;
     }
@@ -73,33 +54,31 @@ fn marking_ok(marking: Marking) -> bool
 }
 
 // 5 and 6: the lowest packet with either, 5 first at one packet.
-fn packets(slots: &[u32], values: &[u32], taken: Values) -> Checked
+fn packets(slots: &[u32], values: &[u32], marking: Option<Marking>) -> Result<(), Refusal>
     requires { Lengths slots.now values.now }
-    ensures { verdict_of result ≡ packet_refusal (ok_of taken) slots.now values.now }
+    ensures { verdict_of result ≡ packet_refusal (ok_of marking) slots.now values.now }
 {
     let mut before = Slot(0);
-    let mut i = 0;
-    while i < slots.len() {
+    for i in 0..slots.len() {
         let slot = Slot(slots[i]);
         let place = i as u32 + 1;
         let slot_fits = slot_ok(before, slot);
-        let value_fits = value_taken(taken, values[i]);
+        let value_fits = value_taken(marking, values[i]);
         if !slot_fits {
-            return Checked::Refused(Refusal {
+            return Err(Refusal {
                 cause: Cause::Slot,
                 place,
             });
         }
         if !value_fits {
-            return Checked::Refused(Refusal {
+            return Err(Refusal {
                 cause: Cause::Value,
                 place,
             });
         }
         before = slot;
-        i += 1;
     }
-    Checked::Accepted
+    Ok(())
 }
 
 // Whether all slots are in range and none is below the one before. Nothing is decided on the way, so a turn costs little.
@@ -107,79 +86,59 @@ fn slots_fit(slots: &[u32]) -> bool
     ensures { result ≡ true → SlotsFit slots.now (length slots.now) }
 {
     let mut bad = false;
-    let mut last: u32 = 0;
-    let mut i = 0;
-    while i < slots.len() {
-        let slot = slots[i];
+    let mut last = 0;
+    for &slot in slots {
         bad = bad | (slot < 1) | (Record::SLOT < slot) | (slot < last);
         last = slot;
-        i += 1;
     }
     !bad
 }
 
 // Whether it is plain that no packet is refused. MF's values are left to the walk.
-fn all_fit(slots: &[u32], values: &[u32], taken: Values) -> bool
+fn all_fit(slots: &[u32], values: &[u32], marking: Option<Marking>) -> bool
     requires { Lengths slots.now values.now }
-    ensures { result ≡ true → packet_refusal (ok_of taken) slots.now values.now ≡ clear }
+    ensures { result ≡ true → packet_refusal (ok_of marking) slots.now values.now ≡ clear }
 {
-    match taken {
-        Values::InRange => {
-            if !slots_fit(slots) {
-                return false;
-            }
-            values_ok(values)
-        }
-        Values::LoOrHi(_) => false,
+    match marking {
+        None => slots_fit(slots) && values_ok(values),
+        Some(_) => false,
     }
 }
 
 // 5 and 6: what is plain at once, else the walk.
-fn packets_or_none(slots: &[u32], values: &[u32], taken: Values) -> Checked
+fn packets_or_none(slots: &[u32], values: &[u32], marking: Option<Marking>) -> Result<(), Refusal>
     requires { Lengths slots.now values.now }
-    ensures { verdict_of result ≡ packet_refusal (ok_of taken) slots.now values.now }
+    ensures { verdict_of result ≡ packet_refusal (ok_of marking) slots.now values.now }
 {
-    if all_fit(slots, values, taken) {
-        return Checked::Accepted;
+    if all_fit(slots, values, marking) {
+        return Ok(());
     }
-    packets(slots, values, taken)
+    packets(slots, values, marking)
 }
 
 fn lengths_equal(slots: &[u32], values: &[u32], fates: &[u32], whens: &[u32], bys: &[u32]) -> bool
     ensures { result ≡ lengths_equal slots.now values.now (lists_of fates.now whens.now bys.now) }
 {
     let n = slots.len();
-    if values.len() != n {
-        return false;
-    }
-    if fates.len() != n {
-        return false;
-    }
-    if whens.len() != n {
-        return false;
-    }
-    bys.len() == n
+    values.len() == n && fates.len() == n && whens.len() == n && bys.len() == n
 }
 
 // A refusal that names no place.
-fn refused(cause: Cause) -> Checked
-    ensures { result ≡ Checked.Refused (record { cause = cause; place = 0 }) }
+fn refused(cause: Cause) -> Result<(), Refusal>
+    ensures { result ≡ Err (record { cause = cause; place = 0 }) }
 {
-    Checked::Refused(Refusal { cause, place: 0 })
+    Err(Refusal { cause, place: 0 })
 }
 
 // A call's own test of a parameter.
-fn unless(ok: bool, cause: Cause) -> Checked
+fn unless(ok: bool, cause: Cause) -> Result<(), Refusal>
     ensures { verdict_of result ≡ unless_ok ok cause }
 {
-    if ok {
-        Checked::Accepted
-    } else {
-        refused(cause)
-    }
+    if ok { Ok(()) } else { refused(cause) }
 }
 
 // Every call on a trace: 1, 2, 3, what the tests of its own parameters say, then 5 and 6.
+#[tactic(auto, using(crate::proofs::Laws::cause_refuses), unfolding(model::specs::Rules::or_else))]
 fn in_order(
     slots: &[u32],
     values: &[u32],
@@ -187,10 +146,10 @@ fn in_order(
     fates: &[u32],
     whens: &[u32],
     bys: &[u32],
-    own: Checked,
-    taken: Values,
-) -> Checked
-    ensures { verdict_of result ≡ trace_refusal (verdict_of own) (ok_of taken) slots.now values.now room (lists_of fates.now whens.now bys.now) }
+    own: Result<(), Refusal>,
+    marking: Option<Marking>,
+) -> Result<(), Refusal>
+    ensures { verdict_of result ≡ trace_refusal (verdict_of own) (ok_of marking) slots.now values.now room (lists_of fates.now whens.now bys.now) }
 {
     if !lengths_equal(slots, values, fates, whens, bys) {
         return refused(Cause::Lengths);
@@ -202,13 +161,12 @@ fn in_order(
     if !room_ok(room) {
         return refused(Cause::Room);
     }
-    if let Checked::Refused(refusal) = own {
-        return Checked::Refused(refusal);
-    }
-    packets_or_none(slots, values, taken)
+    own?;
+    packets_or_none(slots, values, marking)
 }
 
 // The test for plain greedy, the audit and the offline plan.
+#[tactic(auto, unfolding(model::specs::Refusals::plain_refusal))]
 pub fn check_plain(
     slots: &[u32],
     values: &[u32],
@@ -216,21 +174,13 @@ pub fn check_plain(
     fates: &[u32],
     whens: &[u32],
     bys: &[u32],
-) -> Checked
+) -> Result<(), Refusal>
     ensures { verdict_of result ≡ plain_refusal slots.now values.now room (lists_of fates.now whens.now bys.now) }
 {
-    in_order(
-        slots,
-        values,
-        room,
-        fates,
-        whens,
-        bys,
-        Checked::Accepted,
-        Values::InRange,
-    )
+    in_order(slots, values, room, fates, whens, bys, Ok(()), None)
 }
 
+#[tactic(auto, unfolding(model::specs::Refusals::pg_refusal))]
 pub fn check_pg(
     slots: &[u32],
     values: &[u32],
@@ -239,7 +189,7 @@ pub fn check_pg(
     fates: &[u32],
     whens: &[u32],
     bys: &[u32],
-) -> Checked
+) -> Result<(), Refusal>
     ensures { verdict_of result ≡ pg_refusal beta slots.now values.now room (lists_of fates.now whens.now bys.now) }
 {
     in_order(
@@ -250,10 +200,11 @@ pub fn check_pg(
         whens,
         bys,
         unless(beta_ok(beta), Cause::Parameters),
-        Values::InRange,
+        None,
     )
 }
 
+#[tactic(auto, unfolding(model::specs::Refusals::mf_refusal))]
 pub fn check_mf(
     slots: &[u32],
     values: &[u32],
@@ -262,7 +213,7 @@ pub fn check_mf(
     fates: &[u32],
     whens: &[u32],
     bys: &[u32],
-) -> Checked
+) -> Result<(), Refusal>
     ensures { verdict_of result ≡ mf_refusal marking slots.now values.now room (lists_of fates.now whens.now bys.now) }
 {
     in_order(
@@ -273,6 +224,6 @@ pub fn check_mf(
         whens,
         bys,
         unless(marking_ok(marking), Cause::Parameters),
-        Values::LoOrHi(marking),
+        Some(marking),
     )
 }

@@ -13,25 +13,25 @@ pub returns-then-not-slot_fits : goal.returns-then-not-slot_fits
 returns-then-not-slot_fits c =
     let a = c.args in
     let loop = c.loop-i in
-    let this = turn (ok_of a.taken) a.slots.now a.values.now loop.before loop.i c.requires.equal c.loop-i-test.true c.slot_ok-slot_fits.ensures c.value_taken-value_fits.ensures in
+    let this = turn (ok_of a.marking) a.slots.now a.values.now loop.before loop.i c.requires.equal c.loop-i-test.true c.slot_ok-slot_fits.ensures c.value_taken-value_fits.ensures in
     sym (this.by_slot (cc)) ∙ loop.invariant.1
 
 pub returns-then-not-value_fits : goal.returns-then-not-value_fits
 returns-then-not-value_fits c =
     let a = c.args in
     let loop = c.loop-i in
-    let this = turn (ok_of a.taken) a.slots.now a.values.now loop.before loop.i c.requires.equal c.loop-i-test.true c.slot_ok-slot_fits.ensures c.value_taken-value_fits.ensures in
+    let this = turn (ok_of a.marking) a.slots.now a.values.now loop.before loop.i c.requires.equal c.loop-i-test.true c.slot_ok-slot_fits.ensures c.value_taken-value_fits.ensures in
     sym (this.by_value (cc) (cc)) ∙ loop.invariant.1
 
 pub loop-i-preserved : goal.loop-i-preserved
 loop-i-preserved c =
     let a = c.args in
     let loop = c.loop-i in
-    let this = turn (ok_of a.taken) a.slots.now a.values.now loop.before loop.i c.requires.equal c.loop-i-test.true c.slot_ok-slot_fits.ensures c.value_taken-value_fits.ensures in
+    let this = turn (ok_of a.marking) a.slots.now a.values.now loop.before loop.i c.requires.equal c.loop-i-test.true c.slot_ok-slot_fits.ensures c.value_taken-value_fits.ensures in
     (omega arith, this.by_none (cc) (cc) ∙ loop.invariant.1)
 
 pub returns : goal.returns
 returns c =
     let a = c.args in
-    sym (turn_none (ok_of a.taken) a.slots.now a.values.now c.loop-i.before c.loop-i.i c.loop-i-test.false)
+    sym (turn_none (ok_of a.marking) a.slots.now a.values.now c.loop-i.before c.loop-i.i c.loop-i-test.false)
     ∙ c.loop-i.invariant.1

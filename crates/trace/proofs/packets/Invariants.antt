@@ -1,6 +1,6 @@
 -- `trace::packets` meets its contract. The loop's invariant: what the walk answers from the packet at place i on is what it answers of the whole trace.
 use mathlib.Core.Path.{◌≡◌}
-use Prim.Native.Nat.{◌≤◌, ◌-◌}
+use Prim.Native.Nat.{◌≤◌}
 use lib.ListN.{length}
 use Rattle.trace.proofs.Laws.{rest_from}
 use Rattle.trace.specs.Checked.{ok_of}
@@ -8,7 +8,4 @@ use Rattle.model.specs.Refusals.{packet_refusal}
 use Rattle.trace.proofs.packets.Given as goal
 
 abbrev pub invariant-loop-i : goal.invariant-loop-i
-invariant-loop-i l = (l.i ≤ length l.slots) × (rest_from (ok_of l.taken) l.slots l.values l.before l.i ≡ packet_refusal (ok_of l.taken) l.slots l.values)
-
-abbrev pub decreases-loop-i : goal.decreases-loop-i
-decreases-loop-i l = length l.slots - l.i
+invariant-loop-i l = (l.i ≤ length l.slots) × (rest_from (ok_of l.marking) l.slots l.values l.before l.i ≡ packet_refusal (ok_of l.marking) l.slots l.values)

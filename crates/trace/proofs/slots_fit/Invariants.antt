@@ -1,5 +1,5 @@
 -- `trace::slots_fit` meets its contract. The loop's invariant: where nothing bad was found, all that was passed fits.
-use Prim.Native.Nat.{◌≤◌, ◌-◌}
+use Prim.Native.Nat.{◌≤◌}
 use mathlib.Core.Path.{◌≡◌}
 use mathlib.Core.Bool.{false}
 use mathlib.Core.List.{◌∷◌}
@@ -7,8 +7,5 @@ use lib.ListN.{length, get_or}
 use Rattle.trace.specs.Fitting.{SlotsFit}
 use Rattle.trace.proofs.slots_fit.Given as goal
 
-abbrev pub invariant-loop-i : goal.invariant-loop-i
-invariant-loop-i l = (l.i ≤ length l.slots) × (l.last ≡ get_or (0 ∷ l.slots) l.i 0) × (l.bad ≡ false → SlotsFit l.slots l.i)
-
-abbrev pub decreases-loop-i : goal.decreases-loop-i
-decreases-loop-i l = length l.slots - l.i
+abbrev pub invariant-loop-slot : goal.invariant-loop-slot
+invariant-loop-slot l = (l.slot-index ≤ length l.slots) × (l.last ≡ get_or (0 ∷ l.slots) l.slot-index 0) × (l.bad ≡ false → SlotsFit l.slots l.slot-index)
