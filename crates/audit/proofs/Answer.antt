@@ -11,7 +11,8 @@ use Rattle.model.specs.declared.Fault.TheVariants as faults
 use Rattle.model.specs.declared.FirstFault.{FirstFault}
 use Rattle.model.specs.declared.Refusal.{Refusal}
 use Rattle.model.specs.declared.Totals.{Totals}
-use Rattle.model.specs.declared.AuditAnswer.TheVariants as answers
+use Rattle.model.specs.declared.AuditError.TheVariants as errors
+use Rattle.std.specs.Prelude.{Ok, Err}
 use Rattle.model.specs.Packets.{arrivals}
 use Rattle.model.specs.Record.{Lists, rows}
 use Rattle.model.specs.Rules.{Verdict, clear, or_else, first_fault, buffer_of}
@@ -49,18 +50,18 @@ totals_are slots values room lists most t m =
 
 module _ (slots values : List ℕ) (room : ℕ) (lists : Lists) where
   pub on_refused : (f : Refusal) → ◌≡◌ {A = Verdict} (record { number = cause_number f.cause; place = f.place }) (plain_refusal slots values room lists)
-      → of_audit (answers.Refused f) ≡ audit_call slots values room lists
+      → of_audit (Err (errors.Refused f)) ≡ audit_call slots values room lists
   unfolding audit_call or_else
   on_refused f e = rw (← e, cause_refuses f.cause, cause_refuses f.cause)
 
   pub on_faulty : (f : FirstFault) → clear ≡ plain_refusal slots values room lists
       → first_fault (buffer_of slots room) (rows (arrivals slots values) lists) ≡ record { number = fault_number f.fault; place = f.packet.0 }
-      → of_audit (answers.Faulty f) ≡ audit_call slots values room lists
+      → of_audit (Err (errors.Faulty f)) ≡ audit_call slots values room lists
   unfolding audit_call or_else
   on_faulty f e d = rw (← e, d, fault_some f.fault)
 
   pub on_passed : (t : Totals) → clear ≡ plain_refusal slots values room lists
       → first_fault (buffer_of slots room) (rows (arrivals slots values) lists) ≡ clear → totals_of (rows (arrivals slots values) lists) ≡ t
-      → of_audit (answers.Passed t) ≡ audit_call slots values room lists
+      → of_audit (Ok t) ≡ audit_call slots values room lists
   unfolding audit_call or_else
   on_passed t e d q = rw (← e, d, ← q)

@@ -1,25 +1,17 @@
 -- The rows that the audit reads: a packet of the trace beside what the record says of it.
-use Rattle.std.specs.Prelude.{ℕ, suc, ◌<◌, ◌≡◌, true, false, List, length, get_or}
-use Rattle.model.specs.Limits.{within, record_limits}
+use Rattle.std.specs.Prelude.{ℕ, suc, ◌<◌, ◌≡◌, true, Result, Ok, Err, List, length, get_or}
+use Rattle.model.specs.Limits.{record_limits}
 use Rattle.model.specs.Rules.{fate_outside}
-use Rattle.model.specs.Numbers.{fate_number}
 use Rattle.model.specs.Record.{Row, Lists}
-use Rattle.model.specs.declared.Fate.TheVariants.{Sent, Flushed}
 use Rattle.audit_faults.specs.Faults.{row_of}
-use Rattle.audit.specs.declared.Named.{Named}
-use Rattle.audit.specs.declared.Named.TheVariants.{Fate, Outside}
-use Rattle.audit.specs.declared.Read.{Read}
-use Rattle.audit.specs.declared.Read.TheVariants as read
+use Rattle.audit_faults.specs.declared.FatedRow.{FatedRow}
+use Rattle.model.specs.declared.Fault.{Fault}
+use Rattle.model.specs.declared.Fault.TheVariants.{FateOutside}
 
--- the number is that of the fate it names, or outside 1 to 5
-abbrev pub Names : ℕ → Named → Type 0
-Names n (Fate f) = n ≡ fate_number f
-Names n Outside = within (fate_number Sent) (fate_number Flushed) n ≡ false
-
--- what was read is the row, or its fate is outside 1 to 5
-abbrev pub Reads : Row → Read → Type 0
-Reads r (read.Row e) = row_of e ≡ r
-Reads r read.Outside = fate_outside r ≡ true
+-- what was read is the row, or its fate is outside 1 to 5, which is fault 11
+abbrev pub Reads : Row → Result FatedRow Fault → Type 0
+Reads r (Ok e) = row_of e ≡ r
+Reads r (Err fault) = (fate_outside r ≡ true) × (fault ≡ FateOutside)
 
 -- the place of a packet in all five lists
 pub record Place (slots values : List ℕ) (lists : Lists) (i : ℕ) : Type 0 where

@@ -1,13 +1,12 @@
 -- What the sweep keeps of the packets so far, in place of their rows: the when of the last one sent, and for each the arrival at which it is held no more.
-use Rattle.std.specs.Prelude.{ℕ, suc, ◌-◌, ◌≡◌, cond, List, [], ◌∷◌, leb}
+use Rattle.std.specs.Prelude.{ℕ, suc, ◌-◌, ◌≡◌, cond, Result, Ok, Err, List, [], ◌∷◌, leb}
 use Rattle.model.specs.declared.Fate.{Fate}
 use Rattle.model.specs.declared.Fate.TheVariants.{Sent, Rejected, PushedOut, Preempted, Flushed}
 use Rattle.model.specs.Record.{Row}
 use Rattle.model.specs.Totals.{most_held_from}
 use Rattle.model.specs.Rules.{Buffer, clear, first_fault, at_fate}
 use Rattle.model.specs.Numbers.{fault_number}
-use Rattle.audit.specs.declared.Swept.{Swept}
-use Rattle.audit.specs.declared.Swept.TheVariants as swept
+use Rattle.model.specs.declared.FirstFault.{FirstFault}
 
 -- how many slots at the front of the list are not after `when`
 unfoldable pub up_to : List ℕ → ℕ → ℕ
@@ -27,6 +26,6 @@ unfoldable pub leave_of : List ℕ → Row → ℕ
 leave_of slots r = at_fate 0 r (leave_for slots r)
 
 -- what the sweep says of the rows: no fault and the most held, or the first fault
-abbrev pub SweptAs : Buffer → List Row → Swept → Type 0
-SweptAs buffer rows (swept.Clear most) = (first_fault buffer rows ≡ clear) × (most_held_from [] rows ≡ most)
-SweptAs buffer rows (swept.Faulty f) = first_fault buffer rows ≡ record { number = fault_number f.fault; place = f.packet.0 }
+abbrev pub SweptAs : Buffer → List Row → Result ℕ FirstFault → Type 0
+SweptAs buffer rows (Ok most) = (first_fault buffer rows ≡ clear) × (most_held_from [] rows ≡ most)
+SweptAs buffer rows (Err f) = first_fault buffer rows ≡ record { number = fault_number f.fault; place = f.packet.0 }

@@ -11,53 +11,12 @@ ghost use Rattle.model.specs.Limits.{record_limits};
 ghost use Rattle.model.specs.Rules.{by_wrong, buffer_of};
 ghost use Rattle.audit_faults.specs.Faults.{row_of};
 ghost use Rattle.laws.specs.Accepted.{NeverDown, Accepted};
-ghost use Rattle.audit.specs.Rows.{row_at, Names, Reads, Place};
+ghost use Rattle.audit.specs.Rows.{row_at, Reads, Place};
 ghost use Rattle.audit.specs.Sweep.{up_to, leave_of, SweptAs};
 
-use audit_faults::{FatedRow, Found, fault_of, last_of};
-use model::{AuditAnswer, Fate, Fault, FirstFault, PacketNumber, Record, Slot};
+use audit_faults::{FatedRow, fault_of, last_of};
+use model::{AuditError, Fate, Fault, FirstFault, PacketNumber, Record, Slot, Totals};
 use totals::{only_if, totals};
-use trace::Checked;
-
-// What a record's number of a fate names.
-#[derive(Clone, Copy)]
-enum Named {
-    Fate(Fate),
-    Outside,
-}
-
-// What stands at a place: a row, or a fate that is none.
-#[derive(Clone, Copy)]
-enum Read {
-    Row(FatedRow),
-    Outside,
-}
-
-// What the sweep over all packets finds: no fault and the most held, or the first fault.
-#[derive(Clone, Copy)]
-enum Swept {
-    Clear(u32),
-    Faulty(FirstFault),
-}
-
-fn fate_of(number: u32) -> Named
-    ensures { Names number result }
-{
-    match number {
-        1 => Named::Fate(Fate::Sent),
-        2 => Named::Fate(Fate::Rejected),
-        3 => Named::Fate(Fate::PushedOut),
-        4 => Named::Fate(Fate::Preempted),
-        5 => Named::Fate(Fate::Flushed),
-        _ => Named::Outside,
-    }
-}
-
-fn lesser(a: usize, b: usize) -> usize
-    ensures { result ≡ min a b }
-{
-    if a < b { a } else { b }
-}
 
 // Some slots at the front of the trace that are not after `when`: the first `near`, if the last of these is not.
 fn front(slots: &[u32], near: usize, when: Slot) -> usize
@@ -82,7 +41,7 @@ fn up_to(slots: &[u32], near: usize, when: Slot) -> usize
     let mut high = slots.len();
     let mut step = 0;
     while low < high {
-        let ahead = lesser(step, (high - low) / 2);
+        let ahead = step.min((high - low) / 2);
         let middle = low + ahead;
         if slots[middle] <= when.0 {
             low = middle + 1;
@@ -95,20 +54,20 @@ fn up_to(slots: &[u32], near: usize, when: Slot) -> usize
 }
 
 // The place of the first arrival at which the packet is held no more.
+#[tactic(auto, unfolding(crate::specs::Sweep::leave_of, model::specs::Rules::at_fate, model::specs::Rules::has_fate, model::specs::Rules::by_wrong, model::specs::Limits::within))]
 fn leave_of(slots: &[u32], row: FatedRow) -> usize
     requires { NeverDown slots.now × (by_wrong (length slots.now) (row_of row) ≡ false) }
     ensures { result ≡ leave_of slots.now (row_of row) }
 {
-    let fate = row.fate;
-    match fate {
-        Fate::Sent => up_to(slots, row.number.0 as usize, row.when),
+    match row.fate {
+        Fate::Sent | Fate::Flushed => up_to(slots, row.number.0 as usize, row.when),
         Fate::Rejected => 0,
-        Fate::PushedOut => row.by.0 as usize - 1,
-        Fate::Preempted => row.by.0 as usize - 1,
-        Fate::Flushed => up_to(slots, row.number.0 as usize, row.when),
+        Fate::PushedOut | Fate::Preempted => row.by.0 as usize - 1,
     }
 }
 
+// The packet at place i beside its entry; fault 11 where the entry has a fate outside 1 to 5.
+#[tactic(auto, unfolding(model::specs::Rules::fate_outside))]
 fn row_at(
     slots: &[u32],
     values: &[u32],
@@ -116,47 +75,35 @@ fn row_at(
     whens: &[u32],
     bys: &[u32],
     i: usize,
-) -> Read
+) -> Result<FatedRow, Fault>
     requires { Place slots.now values.now (lists_of fates.now whens.now bys.now) i }
     ensures { Reads (row_at slots.now values.now (lists_of fates.now whens.now bys.now) i) result }
 {
-    let Named::Fate(fate) = fate_of(fates[i]) else {
-        return Read::Outside;
-    };
+    let fate = Fate::try_from(fates[i])?;
     let place = i as u32;
     let number = place + 1;
-    let slot = slots[i];
-    let value = values[i];
-    let when = whens[i];
-    let by = bys[i];
-    Read::Row(FatedRow {
+    Ok(FatedRow {
         number: PacketNumber(number),
-        slot: Slot(slot),
-        value,
+        slot: Slot(slots[i]),
+        value: values[i],
         fate,
-        when: Slot(when),
-        by: PacketNumber(by),
+        when: Slot(whens[i]),
+        by: PacketNumber(bys[i]),
     })
-}
-
-fn greater(a: u32, b: u32) -> u32
-    ensures { result ≡ max a b }
-{
-    if a < b { b } else { a }
 }
 
 // The fault of the packet at place i.
-fn faulty(fault: Fault, i: usize) -> Swept
+fn faulty(fault: Fault, i: usize) -> FirstFault
     requires { i < record_limits.packets }
-    ensures { result ≡ Swept.Faulty (record { fault = fault; packet = record { 0 = i + 1 } }) }
+    ensures { result ≡ record { fault = fault; packet = record { 0 = i + 1 } } }
 {
-    Swept::Faulty(FirstFault {
+    FirstFault {
         fault,
         packet: PacketNumber(i as u32 + 1),
-    })
+    }
 }
 
-// One sweep over the packets. leaving[k] counts the packets passed that are held no more from the arrival at place k on.
+// One sweep over the packets: the first fault, else the most held. leaving[k] counts the packets passed that are held no more from the arrival at place k on.
 fn sweep(
     slots: &[u32],
     values: &[u32],
@@ -164,7 +111,7 @@ fn sweep(
     fates: &[u32],
     whens: &[u32],
     bys: &[u32],
-) -> Swept
+) -> Result<u32, FirstFault>
     requires { Accepted value_ok slots.now values.now room (lists_of fates.now whens.now bys.now) }
     ensures { SweptAs (buffer_of slots.now room) (rows (arrivals slots.now values.now) (lists_of fates.now whens.now bys.now)) result }
 {
@@ -172,13 +119,13 @@ fn sweep(
     let mut held: u32 = 0;
     let mut most: u32 = 0;
     let mut last = Slot(0);
-    let mut i = 0;
-    while i < slots.len() {
-        let Read::Row(row) = row_at(slots, values, fates, whens, bys, i) else {
-            return faulty(Fault::FateOutside, i);
+    for i in 0..slots.len() {
+        let row = match row_at(slots, values, fates, whens, bys, i) {
+            Ok(row) => row,
+            Err(fault) => return Err(faulty(fault, i)),
         };
-        if let Found::Fault(fault) = fault_of(slots, last, row) {
-            return faulty(fault, i);
+        if let Some(fault) = fault_of(slots, last, row) {
+            return Err(faulty(fault, i));
         }
         last = last_of(last, row);
         let leave = leave_of(slots, row);
@@ -186,12 +133,11 @@ fn sweep(
         held = held - leaving[i] + stays;
         leaving[leave] += stays;
         if room < held as usize {
-            return faulty(Fault::OverRoom, i);
+            return Err(faulty(Fault::OverRoom, i));
         }
-        most = greater(most, held);
-        i += 1;
+        most = most.max(held);
     }
-    Swept::Clear(most)
+    Ok(most)
 }
 
 // The audit of a record: refusals 1, 2, 3, 5 and 6, then the first fault, else the totals.
@@ -202,14 +148,10 @@ pub fn audit(
     fates: &[u32],
     whens: &[u32],
     bys: &[u32],
-) -> AuditAnswer
+) -> Result<Totals, AuditError>
     ensures { of_audit result ≡ audit_call slots.now values.now room (lists_of fates.now whens.now bys.now) }
 {
-    if let Checked::Refused(refusal) = trace::check_plain(slots, values, room, fates, whens, bys) {
-        return AuditAnswer::Refused(refusal);
-    }
-    match sweep(slots, values, room, fates, whens, bys) {
-        Swept::Clear(most) => AuditAnswer::Passed(totals(values, fates, most)),
-        Swept::Faulty(fault) => AuditAnswer::Faulty(fault),
-    }
+    trace::check_plain(slots, values, room, fates, whens, bys)?;
+    let most = sweep(slots, values, room, fates, whens, bys)?;
+    Ok(totals(values, fates, most))
 }
