@@ -7,7 +7,7 @@ use lib.ListN.{length}
 use Rattle.model.specs.declared.PacketNumber.{PacketNumber}
 use Rattle.model.specs.declared.Packet.{Packet}
 use Rattle.model.specs.declared.Slot.{Slot}
-use Rattle.model.specs.declared.SlotAnswer.TheVariants.{Sent}
+use Rattle.std.specs.Prelude.{Some}
 use Rattle.model.specs.declared.Fate.TheVariants as fates
 use Rattle.model.specs.Record.{Lists, enter, entered}
 use Rattle.model.specs.Course.{Step, Policy, send_oldest}
@@ -24,7 +24,7 @@ use Rattle.steps.proofs.Turning.{entered_both}
 use Rattle.mf_flush.proofs.Ending.{Ending, Ended, ending_past, ending_idle, ending_turn}
 
 module _ (slot : Slot) (head tail : ℕ) (numbers values : List ℕ) (W : Within (window head tail) numbers values) (before : Lists) where
-  pub sent_oldest : (p : Packet) → oldest_of (window_of (window head tail) numbers values) ≡ Sent p
+  pub sent_oldest : (p : Packet) → oldest_of (window_of (window head tail) numbers values) ≡ Some p
       → (after : Lists) → after ≡ enter (entry p.number fates.Sent slot (record { 0 = 0 })) before
       → (head < tail) × Stepped (send_oldest slot (window_of (window head tail) numbers values)) before (window (head + 1) tail) numbers values after
   unfolding entered
@@ -39,7 +39,7 @@ module _ (slot : Slot) (head tail : ℕ) (numbers values : List ℕ) (W : Within
         },
       )
 
-  pub sent_none : ((p : Packet) → oldest_of (window_of (window head tail) numbers values) ≡ Sent p → ⊥)
+  pub sent_none : ((p : Packet) → oldest_of (window_of (window head tail) numbers values) ≡ Some p → ⊥)
       → Stepped (send_oldest slot (window_of (window head tail) numbers values)) before (window head tail) numbers values before
   unfolding entered
   sent_none h =

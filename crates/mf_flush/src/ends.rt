@@ -7,7 +7,7 @@ ghost use Rattle.mf_flush.specs.Flush.{mf_from, mf_to, Sends, EndedIn, EndsIn};
 use crate::sift::{flush, head_mark};
 use entry::enter;
 use mf_marks::mark;
-use model::{Fate, Marking, PacketNumber, Slot, SlotAnswer};
+use model::{Fate, Marking, PacketNumber, Slot};
 use steps::{Window, oldest};
 
 // The oldest packet, if any, is sent.
@@ -25,7 +25,7 @@ fn send(
 {
     let head = w.head;
     let tail = w.tail;
-    let SlotAnswer::Sent(p) = oldest(numbers, values, w) else {
+    let Some(p) = oldest(numbers, values, w) else {
         return w;
     };
     enter(

@@ -1,5 +1,5 @@
 -- What keeping packets in turn needs and gives. Whether packets fit is a matter of slots: it is stated for packets of whatever values.
-use Rattle.std.specs.Prelude.{ℕ, suc, min, ◌+◌, ◌-◌, ◌≤◌, ◌<◌, ◌≡◌, Bool, false, ◌&&◌, cond, List, length, get_or, set, eqb}
+use Rattle.std.specs.Prelude.{ℕ, suc, min, ◌+◌, ◌-◌, ◌≤◌, ◌<◌, ◌≡◌, ⊤, Result, Bool, false, ◌&&◌, cond, List, length, get_or, set, eqb}
 use Rattle.model.specs.Limits.{port_limits}
 use Rattle.model.specs.Packets.{arrivals}
 use Rattle.model.specs.Refusals.{plain_refusal}
@@ -7,7 +7,7 @@ use Rattle.model.specs.Policies.Plan.{fits, keep_in_turn, plan_kept}
 use Rattle.model.specs.Rules.{Verdict}
 use Rattle.model.specs.Record.{Lists}
 use Rattle.model.specs.Lent.{LentList, was, left}
-use Rattle.trace.specs.declared.Checked.{Checked}
+use Rattle.model.specs.declared.Refusal.{Refusal}
 use Rattle.trace.specs.Checked.{verdict_of}
 use Rattle.steps.specs.Places.{packets_at}
 
@@ -88,7 +88,7 @@ kept_after verdict slots values room kept =
     cond (eqb verdict.number 0 && eqb (length kept) (length slots)) (plan_kept room (arrivals slots values)) kept
 
 -- the answer is the test of the plan's trace, and `kept` follows it
-abbrev pub TestsAndKeeps : List ℕ → List ℕ → Lists → LentList → ℕ → Checked → Type 0
+abbrev pub TestsAndKeeps : List ℕ → List ℕ → Lists → LentList → ℕ → Result ⊤ Refusal → Type 0
 TestsAndKeeps slots values lists kept room answer =
     let verdict = plain_refusal slots values room lists in
     (verdict_of answer ≡ verdict) × (left kept ≡ kept_after verdict slots values room (was kept))

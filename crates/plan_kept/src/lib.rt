@@ -11,9 +11,8 @@ ghost use Rattle.laws.specs.Accepted.{Accepted};
 ghost use Rattle.plan_order.specs.Order.{Inside};
 ghost use Rattle.plan_kept.specs.Keep.{Triable, Reach, Raisable, Raised, Keepable, HeldAs, TakenInTurn, TestsAndKeeps};
 
-use model::Record;
+use model::{Record, Refusal};
 use plan_order::by_falling_value;
-use trace::Checked;
 
 // How far one more packet at a place reaches: the first arrival after it that finds it sent, as it finds all others, or the end of the trace. If an arrival
 // before that has no room for one more, the place itself.
@@ -116,15 +115,12 @@ pub fn keep(
     whens: &[u32],
     bys: &[u32],
     kept: &mut [u8],
-) -> Checked
+) -> Result<(), Refusal>
     ensures { TestsAndKeeps slots.now values.now (lists_of fates.now whens.now bys.now) kept room result }
 {
-    let tested = trace::check_plain(slots, values, room, fates, whens, bys);
-    if kept.len() != slots.len() {
-        return tested;
-    }
-    if let Checked::Accepted = tested {
+    trace::check_plain(slots, values, room, fates, whens, bys)?;
+    if kept.len() == slots.len() {
         keep_all(slots, values, room, kept);
     }
-    tested
+    Ok(())
 }

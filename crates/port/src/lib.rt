@@ -13,10 +13,7 @@ ghost use Rattle.port.specs.State.{state_of, limits_of, making_of, arrival_of, s
 use crate::places::take_out;
 use checks::ranges::{beta_ok, room_ok};
 use checks::{all_zero, numbers_rise, ranges, value_ok, values_ok};
-use model::{
-    ArrivalAnswer, Beta, Cause, Loss, MakingAnswer, Packet, PacketNumber, Record, Refusal, Rule,
-    SlotAnswer,
-};
+use model::{ArrivalAnswer, Beta, Cause, Loss, Packet, PacketNumber, Record, Refusal, Rule};
 use queue::{Choice, decide};
 
 // Room, beta, the last number given, and the held packets in order: the oldest at place 0, unused places zero.
@@ -42,21 +39,21 @@ pub struct Limits {
 #[derive(Clone, Copy)]
 pub struct MadePort {
     pub port: Port,
-    pub answer: MakingAnswer,
+    pub answer: Result<(), Refusal>,
 }
 
 // What an arrival hands back.
 #[derive(Clone, Copy)]
 pub struct PortArrival {
     pub port: Port,
-    pub answer: ArrivalAnswer,
+    pub answer: Result<ArrivalAnswer, Refusal>,
 }
 
 // What an end of slot hands back.
 #[derive(Clone, Copy)]
 pub struct PortSlot {
     pub port: Port,
-    pub answer: SlotAnswer,
+    pub answer: Result<Option<Packet>, Refusal>,
 }
 
 // A packet that was held, and the port without it.
@@ -97,7 +94,7 @@ impl Port {
         }
         MadePort {
             port: empty(room, beta),
-            answer: MakingAnswer::Made,
+            answer: Ok(()),
         }
     }
 
@@ -152,7 +149,7 @@ impl Port {
         if !self.is_sound() {
             return PortSlot {
                 port: self,
-                answer: SlotAnswer::Refused(Refusal {
+                answer: Err(Refusal {
                     cause: Cause::Unsound,
                     place: 0,
                 }),
@@ -162,15 +159,13 @@ impl Port {
         if idle {
             return PortSlot {
                 port: self,
-                answer: SlotAnswer::Idle,
+                answer: Ok(None),
             };
         }
-        let sent = self.take(0);
-        let port = sent.port;
-        let packet = sent.packet;
+        let Taken { port, packet } = self.take(0);
         PortSlot {
             port,
-            answer: SlotAnswer::Sent(packet),
+            answer: Ok(Some(packet)),
         }
     }
 
@@ -181,7 +176,7 @@ impl Port {
         let refusal = Refusal { cause, place: 0 };
         PortArrival {
             port: self,
-            answer: ArrivalAnswer::Refused(refusal),
+            answer: Err(refusal),
         }
     }
 
@@ -202,13 +197,13 @@ impl Port {
         match decide(&values[..held], self.room, Rule::PG(beta), value) {
             Choice::Hold => PortArrival {
                 port: self.hold(packet),
-                answer: ArrivalAnswer::Held(number),
+                answer: Ok(ArrivalAnswer::Held(number)),
             },
             Choice::Reject => {
                 self.last = number;
                 PortArrival {
                     port: self,
-                    answer: ArrivalAnswer::Rejected(number),
+                    answer: Ok(ArrivalAnswer::Rejected(number)),
                 }
             }
             Choice::Lose(place, kind) => {
@@ -217,7 +212,7 @@ impl Port {
                 let lost = taken.packet;
                 PortArrival {
                     port: rest.hold(packet),
-                    answer: ArrivalAnswer::HeldLosing(number, Loss { packet: lost, kind }),
+                    answer: Ok(ArrivalAnswer::HeldLosing(number, Loss { packet: lost, kind })),
                 }
             }
         }
@@ -283,6 +278,6 @@ fn unmade(cause: Cause) -> MadePort
 {
     MadePort {
         port: empty(0, Beta { num: 0, den: 0 }),
-        answer: MakingAnswer::Refused(Refusal { cause, place: 0 }),
+        answer: Err(Refusal { cause, place: 0 }),
     }
 }

@@ -9,7 +9,9 @@ use lib.Dec.{eqb}
 use borrow.Author.Tests.{eq-eqb, ne_eqb, eqb-true, lt-leb}
 use Rattle.model.specs.declared.Cause.{Cause}
 use Rattle.model.specs.declared.Cause.TheVariants.{Lengths, Packets}
-use Rattle.model.specs.declared.RunAnswer.{RunAnswer}
+use Rattle.model.specs.declared.Totals.{Totals}
+use Rattle.model.specs.declared.Refusal.{Refusal}
+use Rattle.std.specs.Prelude.{Result}
 use Rattle.model.specs.Limits.{record_limits}
 use Rattle.model.specs.Numbers.{cause_number}
 use Rattle.model.specs.Packets.{arrivals}
@@ -48,7 +50,7 @@ module _ (policy : Policy) (room : ℕ) (slots values : List ℕ) (m : ℕ) (few
   pub blank_called : call_of policy room slots values (zeroed (length slots) m) ≡ outcome_of policy room slots values
   blank_called = ap (λ (l : List ℕ). call_of policy room slots values (lists_of l l l)) (first_zeros (length slots) m few)
 
-  pub replied : (answer : RunAnswer) {after : Lists} → outcome answer after ≡ call_of policy room slots values (zeroed (length slots) m)
+  pub replied : (answer : Result Totals Refusal) {after : Lists} → outcome answer after ≡ call_of policy room slots values (zeroed (length slots) m)
       → of_run answer ≡ reply_of policy room slots values
   replied answer e = ap (λ (o : Outcome). o.reply) (e ∙ blank_called)
 

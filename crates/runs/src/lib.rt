@@ -7,7 +7,7 @@ ghost use Rattle.model.specs.Answers.{of_run};
 ghost use Rattle.steps.specs.Calls.{outcome};
 ghost use Rattle.runs.specs.Policy.{call_of, reply_of, too_many};
 
-use model::{Beta, Cause, Marking, Record, Refusal, RunAnswer};
+use model::{Beta, Cause, Marking, Record, Refusal, Totals};
 
 // The policies and the offline plan, each with its parameters.
 #[derive(Clone, Copy)]
@@ -27,7 +27,7 @@ pub fn call(
     fates: &mut [u32],
     whens: &mut [u32],
     bys: &mut [u32],
-) -> RunAnswer
+) -> Result<Totals, Refusal>
     ensures { outcome result (lists_after fates whens bys) ≡ call_of policy room slots.now values.now (lists_before fates whens bys) }
 {
     match policy {
@@ -39,23 +39,23 @@ pub fn call(
 }
 
 // The answer to a trace that has more packets than a record has places, whatever the policy.
-pub fn too_many(packets: usize, values: usize) -> RunAnswer
+pub fn too_many(packets: usize, values: usize) -> Result<Totals, Refusal>
     ensures { of_run result ≡ too_many packets values }
 {
     if values != packets {
-        return RunAnswer::Refused(Refusal {
+        return Err(Refusal {
             cause: Cause::Lengths,
             place: 0,
         });
     }
-    RunAnswer::Refused(Refusal {
+    Err(Refusal {
         cause: Cause::Packets,
         place: 0,
     })
 }
 
 // What a policy's run on a trace answers; the record is dropped.
-pub fn reply(policy: Policy, room: usize, slots: &[u32], values: &[u32]) -> RunAnswer
+pub fn reply(policy: Policy, room: usize, slots: &[u32], values: &[u32]) -> Result<Totals, Refusal>
     ensures { of_run result ≡ reply_of policy room slots.now values.now }
 {
     let n = slots.len();

@@ -17,10 +17,9 @@ ghost use Rattle.runs_policy.specs.Policy.{policy_by, course_by};
 
 use crate::policy::Policy;
 use crate::run::run;
-use model::{Marking, Record, RunAnswer};
+use model::{Marking, Record, Refusal, Totals};
 use plan_kept::keep;
 use totals::totals;
-use trace::Checked;
 
 // The run of a policy over an accepted trace, and its totals.
 fn finish(
@@ -32,12 +31,12 @@ fn finish(
     fates: &mut [u32],
     whens: &mut [u32],
     bys: &mut [u32],
-) -> RunAnswer
+) -> Result<Totals, Refusal>
     requires { Ready (policy_by policy slots.now kept.now) (beside [] marks.old) slots.now values.now (lists_of fates.old whens.old bys.old) }
     ensures { outcome result (lists_after fates whens bys) ≡ ran slots.now values.now (course_by policy kept.now (was marks) slots.now values.now) }
 {
     let most_held = run(slots, values, policy, kept, marks, fates, whens, bys);
-    RunAnswer::Ran(totals(values, fates, most_held))
+    Ok(totals(values, fates, most_held))
 }
 
 // MF's run, with a mark for each packet of the trace.
@@ -49,7 +48,7 @@ fn finish_mf(
     fates: &mut [u32],
     whens: &mut [u32],
     bys: &mut [u32],
-) -> RunAnswer
+) -> Result<Totals, Refusal>
     requires { Ready (mf_policy room marking slots.now) (unmarked (length slots.now)) slots.now values.now (lists_of fates.old whens.old bys.old) }
     ensures { outcome result (lists_after fates whens bys) ≡ ran slots.now values.now (mf_run room marking slots.now values.now) }
 {
@@ -77,12 +76,12 @@ pub fn mf(
     fates: &mut [u32],
     whens: &mut [u32],
     bys: &mut [u32],
-) -> RunAnswer
+) -> Result<Totals, Refusal>
     ensures { outcome result (lists_after fates whens bys) ≡ mf_call slots.now values.now room marking (lists_before fates whens bys) }
 {
     match trace::check_mf(slots, values, room, marking, fates, whens, bys) {
-        Checked::Refused(refusal) => RunAnswer::Refused(refusal),
-        Checked::Accepted => finish_mf(slots, values, room, marking, fates, whens, bys),
+        Err(refusal) => Err(refusal),
+        Ok(()) => finish_mf(slots, values, room, marking, fates, whens, bys),
     }
 }
 
@@ -105,15 +104,15 @@ pub fn plan(
     fates: &mut [u32],
     whens: &mut [u32],
     bys: &mut [u32],
-) -> RunAnswer
+) -> Result<Totals, Refusal>
     ensures { outcome result (lists_after fates whens bys) ≡ plan_call slots.now values.now room (lists_before fates whens bys) }
 {
     let mut kept = [0u8; Record::PACKETS];
     let n = entries(slots);
     let tested = keep(slots, values, room, fates, whens, bys, &mut kept[..n]);
     match tested {
-        Checked::Refused(refusal) => RunAnswer::Refused(refusal),
-        Checked::Accepted => {
+        Err(refusal) => Err(refusal),
+        Ok(()) => {
             let mut marks = [0u32; 0];
             finish(
                 slots,

@@ -14,9 +14,8 @@ ghost use Rattle.laws.specs.AtOnce.{at_once};
 ghost use Rattle.steps.specs.Calls.{Ready, outcome};
 
 use crate::run::run;
-use model::{Beta, Rule, RunAnswer};
+use model::{Beta, Refusal, Rule, Totals};
 use totals::totals;
-use trace::Checked;
 
 // A rule's run over an accepted trace, and its totals.
 fn finish(
@@ -27,13 +26,13 @@ fn finish(
     fates: &mut [u32],
     whens: &mut [u32],
     bys: &mut [u32],
-) -> RunAnswer
+) -> Result<Totals, Refusal>
     requires ready { Ready (by_rule (at_once room rule)) [] slots.now values.now (lists_of fates.old whens.old bys.old) }
     requires le_room { 1 ≤ room }
     ensures { outcome result (lists_after fates whens bys) ≡ ran slots.now values.now (run_by (rule_of room rule) (arrivals slots.now values.now)) }
 {
     let most = run(slots, values, room, rule, fates, whens, bys);
-    RunAnswer::Ran(totals(values, fates, most))
+    Ok(totals(values, fates, most))
 }
 
 // Plain greedy.
@@ -44,12 +43,12 @@ pub fn greedy(
     fates: &mut [u32],
     whens: &mut [u32],
     bys: &mut [u32],
-) -> RunAnswer
+) -> Result<Totals, Refusal>
     ensures { outcome result (lists_after fates whens bys) ≡ greedy_call slots.now values.now room (lists_before fates whens bys) }
 {
     match trace::check_plain(slots, values, room, fates, whens, bys) {
-        Checked::Refused(refusal) => RunAnswer::Refused(refusal),
-        Checked::Accepted => finish(slots, values, room, Rule::Greedy, fates, whens, bys),
+        Err(refusal) => Err(refusal),
+        Ok(()) => finish(slots, values, room, Rule::Greedy, fates, whens, bys),
     }
 }
 
@@ -62,11 +61,11 @@ pub fn pg(
     fates: &mut [u32],
     whens: &mut [u32],
     bys: &mut [u32],
-) -> RunAnswer
+) -> Result<Totals, Refusal>
     ensures { outcome result (lists_after fates whens bys) ≡ pg_call slots.now values.now room beta (lists_before fates whens bys) }
 {
     match trace::check_pg(slots, values, room, beta, fates, whens, bys) {
-        Checked::Refused(refusal) => RunAnswer::Refused(refusal),
-        Checked::Accepted => finish(slots, values, room, Rule::PG(beta), fates, whens, bys),
+        Err(refusal) => Err(refusal),
+        Ok(()) => finish(slots, values, room, Rule::PG(beta), fates, whens, bys),
     }
 }

@@ -7,7 +7,7 @@ use native.Mathlib.Omega.{arith}
 use lib.ListN.{length, get_or}
 use Rattle.model.specs.declared.Totals.{Totals}
 use Rattle.model.specs.declared.Refusal.{Refusal}
-use Rattle.model.specs.declared.RunAnswer.TheVariants.{Ran, Refused}
+use Rattle.std.specs.Prelude.{Ok, Err}
 use Rattle.model.specs.Packets.{arrivals}
 use Rattle.model.specs.Record.{Entry, Lists, entered, record_of, rows}
 use Rattle.model.specs.Rules.{Verdict, clear}
@@ -49,21 +49,21 @@ module _ {S : Type 0} (P : Policy S) (s : S) (slots values : List ℕ) (lists : 
   totals_rows = rows_totals slots values written R.runnable.same R.formed.sized ∙ ap (totals_by values written.fates) R.most
 
   answered : (after : Lists) → after ≡ written → (most : ℕ) → most ≡ most_queue P first s (arrivals slots values)
-      → (t : Totals) → t ≡ totals_by values after.fates most → outcome (Ran t) after ≡ ran slots values entries
+      → (t : Totals) → t ≡ totals_by values after.fates most → outcome (Ok t) after ≡ ran slots values entries
   answered after e most m t k =
       let same : t ≡ totals_of (rows (arrivals slots values) written) =
       k ∙ ap₂ (λ (l : Lists) (n : ℕ). totals_by values l.fates n) e m ∙ sym totals_rows in
-      ap₂ (λ (u : Totals) (l : Lists). outcome (Ran u) l) same e
+      ap₂ (λ (u : Totals) (l : Lists). outcome (Ok u) l) same e
 
   -- a run that wrote the record and answers its greatest length, with the totals counted from it, is the call's outcome
   pub finished : (after : Lists) (most : ℕ) → run.Ran P s slots values lists after most → (t : Totals) → CountedOrNone values after.fates most t
-      → outcome (Ran t) after ≡ ran slots values entries
+      → outcome (Ok t) after ≡ ran slots values entries
   finished after most done t told =
       let e = all_written after done.written in
       answered after e most done.longest t (told.counted (countable after e))
 
 pub refused : (v : Verdict) (lists : Lists) (done : Outcome) (f : Refusal) → record { number = cause_number f.cause; place = f.place } ≡ v
-    → outcome (Refused f) lists ≡ run_unless v lists done
+    → outcome (Err f) lists ≡ run_unless v lists done
 unfolding run_unless
 refused v lists done f e = rw (← e, cause_refuses f.cause) refl
 

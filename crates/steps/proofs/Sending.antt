@@ -6,7 +6,7 @@ use native.Mathlib.Numerals.{add-one}
 use native.Mathlib.Omega.{arith}
 use Rattle.model.specs.declared.Packet.{Packet}
 use Rattle.model.specs.declared.Slot.{Slot}
-use Rattle.model.specs.declared.SlotAnswer.TheVariants.{Sent}
+use Rattle.std.specs.Prelude.{Some}
 use Rattle.model.specs.declared.Fate.TheVariants as fates
 use Rattle.model.specs.Record.{Lists, enter, entered, sent_at}
 use Rattle.model.specs.Course.{Step, Decided, and_then, by_rule, slot_ends}
@@ -72,13 +72,13 @@ module _ (numbers values : List ℕ) (tail until head₀ slot₀ : ℕ) (before 
     pub left_none : until ≤ slot → Stepped (sends slot₀ until (window_of (window head₀ tail) numbers values)) before (window head tail) numbers values now
     left_none h = finished _ (sending_done slot until (window_of (window head tail) numbers values) h) refl refl
 
-    pub left_idle : ((p : Packet) → oldest_of (window_of (window head tail) numbers values) ≡ Sent p → ⊥)
+    pub left_idle : ((p : Packet) → oldest_of (window_of (window head tail) numbers values) ≡ Some p → ⊥)
         → Stepped (sends slot₀ until (window_of (window head₀ tail) numbers values)) before (window head tail) numbers values now
     left_idle h =
         let none = oldest_none head tail numbers values L.within h in
         finished _ (ap (sends slot until) none ∙ sending_idle slot until) refl (sym none)
 
-    pub left_turn : (p : Packet) (after : Lists) → slot < until → oldest_of (window_of (window head tail) numbers values) ≡ Sent p
+    pub left_turn : (p : Packet) (after : Lists) → slot < until → oldest_of (window_of (window head tail) numbers values) ≡ Some p
         → after ≡ enter (entry p.number fates.Sent (record { 0 = slot }) (record { 0 = 0 })) now
         → (head < tail) × Leaves (head + 1) (slot + 1) after
     unfolding entered

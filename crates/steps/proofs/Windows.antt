@@ -13,7 +13,7 @@ use borrow.Author.Tests.{ltb-true, ltb-false}
 use Rattle.model.specs.Packets.{packet_of, packet_in, nobody, values_of}
 use Rattle.model.specs.declared.Packet.{Packet}
 use Rattle.model.specs.Port.{packets_of}
-use Rattle.model.specs.declared.SlotAnswer.TheVariants.{Sent}
+use Rattle.std.specs.Prelude.{Some}
 use Rattle.queue.proofs.Packets.{packets_append, packets_values, packets_length, packets_at_lem}
 use Rattle.steps.specs.declared.Window.{Window}
 use Rattle.steps.specs.Window.{part, window_of, Within, Holds, oldest_of}
@@ -102,7 +102,7 @@ module _ (head tail : ℕ) (numbers values : List ℕ) (W : Within (window head 
       ap (λ (k : ℕ). packets_of (take k (drop head numbers)) (take k (drop head values))) n
 
   -- the oldest is sent: something is held, and the window has it first
-  pub oldest_sent : (p : Packet) → oldest_of (window_of (window head tail) numbers values) ≡ Sent p
+  pub oldest_sent : (p : Packet) → oldest_of (window_of (window head tail) numbers values) ≡ Some p
       → (head < tail) × (window_of (window head tail) numbers values ≡ p ∷ window_of (window (head + 1) tail) numbers values)
   oldest_sent p sent = go (ltb head tail) refl
     where
@@ -115,12 +115,12 @@ module _ (head tail : ℕ) (numbers values : List ℕ) (W : Within (window head 
           let some : head < tail = ltb-true head tail f in
           let cons = window_cons some in
           let first : Packet = packet_in numbers values head in
-          let same : Sent first ≡ Sent p = sym (ap oldest_of cons) ∙ sent in
+          let same : Some first ≡ Some p = sym (ap oldest_of cons) ∙ sent in
           let is : first ≡ p = cc in
           (some, cons ∙ ap (λ (q : Packet). q ∷ window_of (window (head + 1) tail) numbers values) is)
 
   -- none is sent: nothing is held
-  pub oldest_none : ((p : Packet) → oldest_of (window_of (window head tail) numbers values) ≡ Sent p → ⊥) → window_of (window head tail) numbers values ≡ []
+  pub oldest_none : ((p : Packet) → oldest_of (window_of (window head tail) numbers values) ≡ Some p → ⊥) → window_of (window head tail) numbers values ≡ []
   oldest_none h = go (window_of (window head tail) numbers values) refl
     where
       go : (queue : List Packet) → window_of (window head tail) numbers values ≡ queue → queue ≡ []

@@ -1,6 +1,7 @@
 -- What a call on a trace answers and leaves in the record's lists, as model's definitions have it; and what the test of a trace leaves to a run.
-use Rattle.std.specs.Prelude.{ℕ, ◌≡◌, List, [], length}
-use Rattle.model.specs.declared.RunAnswer.{RunAnswer}
+use Rattle.std.specs.Prelude.{ℕ, ◌≡◌, Result, List, [], length}
+use Rattle.model.specs.declared.Totals.{Totals}
+use Rattle.model.specs.declared.Refusal.{Refusal}
 use Rattle.model.specs.Packets.{arrivals}
 use Rattle.model.specs.Record.{Lists}
 use Rattle.model.specs.Totals.{most_held_from}
@@ -13,7 +14,7 @@ use Rattle.laws.specs.WellFormed.{WellFormed}
 use Rattle.laws.specs.MostQueue.{most_queue}
 use Rattle.steps.specs.Run.{Runnable}
 
-abbrev pub outcome : RunAnswer → Lists → Outcome
+abbrev pub outcome : Result Totals Refusal → Lists → Outcome
 outcome answer lists = record { reply = of_run answer; lists = lists }
 
 -- an accepted trace on which a policy can run, from the state s; the run's record is well formed, and its most held is the greatest length of its queue

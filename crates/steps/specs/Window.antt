@@ -1,8 +1,6 @@
 -- What a window of two lists holds.
-use Rattle.std.specs.Prelude.{ℕ, ◌-◌, ◌≤◌, ◌≡◌, List, [], ◌∷◌, length, take, drop}
+use Rattle.std.specs.Prelude.{ℕ, ◌-◌, ◌≤◌, ◌≡◌, Option, Some, None, Ok, List, [], ◌∷◌, length, take, drop}
 use Rattle.model.specs.declared.Packet.{Packet}
-use Rattle.model.specs.declared.SlotAnswer.{SlotAnswer}
-use Rattle.model.specs.declared.SlotAnswer.TheVariants.{Sent, Idle}
 use Rattle.model.specs.declared.Fate.TheVariants as fates
 use Rattle.model.specs.Numbers.{fate_number}
 use Rattle.model.specs.Packets.{nobody}
@@ -29,10 +27,10 @@ pub record Holds (w : Window) (numbers values : List ℕ) (queue : List Packet) 
   pub within : Within w numbers values
   pub is : window_of w numbers values ≡ queue
 
--- what the end of a slot answers of a queue: the oldest packet, or idle
-abbrev pub oldest_of : List Packet → SlotAnswer
-oldest_of [] = Idle
-oldest_of (p ∷ queue) = Sent p
+-- what the end of a slot answers of a queue: the oldest packet, or none, which is idle
+abbrev pub oldest_of : List Packet → Option Packet
+oldest_of [] = None
+oldest_of (p ∷ queue) = Some p
 
 -- and what that says in 01's numbers: 1 sent and the packet, or 0
 abbrev pub oldest_says : List Packet → PortReply
@@ -40,6 +38,6 @@ oldest_says [] = port_says 0 (record { 0 = 0 }) nobody
 oldest_says (p ∷ queue) = port_says (fate_number fates.Sent) (record { 0 = 0 }) p
 
 -- the answer of the end of a slot, told of a queue
-pub record Oldest (queue : List Packet) (r : SlotAnswer) : Type 0 where
-  pub says : of_slot r ≡ oldest_says queue
+pub record Oldest (queue : List Packet) (r : Option Packet) : Type 0 where
+  pub says : of_slot (Ok r) ≡ oldest_says queue
   pub is : r ≡ oldest_of queue

@@ -2,10 +2,10 @@
 ghost use Rattle.std.specs.Prelude.{◌≡◌};
 ghost use Rattle.steps.specs.Window.{window_of, Within, oldest_of};
 
-use model::{Packet, PacketNumber, SlotAnswer};
+use model::{Packet, PacketNumber};
 
-// What the end of a slot answers: the oldest packet, or idle.
-pub fn oldest(numbers: &[u32], values: &[u32], head: usize, tail: usize) -> SlotAnswer
+// What the end of a slot answers: the oldest packet, or none, which is idle.
+pub fn oldest(numbers: &[u32], values: &[u32], head: usize, tail: usize) -> Option<Packet>
     requires { Within (record { head = head; tail = tail }) numbers.now values.now }
     ensures { result ≡ oldest_of (window_of (record { head = head; tail = tail }) numbers.now values.now) }
 {
@@ -13,11 +13,11 @@ pub fn oldest(numbers: &[u32], values: &[u32], head: usize, tail: usize) -> Slot
     if some {
         let number = numbers[head];
         let value = values[head];
-        SlotAnswer::Sent(Packet {
+        Some(Packet {
             number: PacketNumber(number),
             value,
         })
     } else {
-        SlotAnswer::Idle
+        None
     }
 }

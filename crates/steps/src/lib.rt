@@ -9,7 +9,7 @@ ghost use Rattle.steps.specs.Lent.{queue_in, moved, on, sending_in, lent};
 
 use checks::ranges::ROOM;
 use entry::enter;
-use model::{Fate, PacketNumber, Slot, SlotAnswer};
+use model::{Fate, Packet, PacketNumber, Slot};
 
 mod held;
 
@@ -37,12 +37,12 @@ pub fn lies_within(numbers: &[u32], values: &[u32], w: Window) -> bool
     numbers.len() == values.len()
 }
 
-// What the end of a slot answers: the oldest packet, or idle; idle too where the window does not lie within its lists.
-pub fn oldest(numbers: &[u32], values: &[u32], w: Window) -> SlotAnswer
+// What the end of a slot answers: the oldest packet, or none, which is idle; none too where the window does not lie within its lists.
+pub fn oldest(numbers: &[u32], values: &[u32], w: Window) -> Option<Packet>
     ensures { Guarded (lies_within w numbers.now values.now) (Oldest (queue_in (lent w numbers.now values.now)) result) (Oldest [] result) }
 {
     if !lies_within(numbers, values, w) {
-        return SlotAnswer::Idle;
+        return None;
     }
     held::oldest(numbers, values, w.head, w.tail)
 }
@@ -67,7 +67,7 @@ pub fn send_until(
     let tail = w.tail;
     let mut slot = from.0;
     while slot < until.0 {
-        let SlotAnswer::Sent(p) = held::oldest(numbers, values, head, tail) else {
+        let Some(p) = held::oldest(numbers, values, head, tail) else {
             return Window { head, tail };
         };
         enter(

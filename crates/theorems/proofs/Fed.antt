@@ -9,7 +9,7 @@ use lib.ListN.{length, get_or}
 use borrow.Author.Tests.{not-false}
 use Rattle.model.specs.declared.Packet.{Packet}
 use Rattle.model.specs.declared.Beta.{Beta}
-use Rattle.model.specs.declared.MakingAnswer.TheVariants.{Made}
+use Rattle.std.specs.Prelude.{Ok}
 use Rattle.model.specs.Limits.{port_limits, within}
 use Rattle.model.specs.Packets.{packet_of, Arrival, arrivals_from, arrivals, slots_until}
 use Rattle.model.specs.Record.{Entry, Lists, record_of}
@@ -101,7 +101,7 @@ module _ (room : ℕ) (beta : Beta) where
 
 -- the making is not refused, and the port carries the empty queue
 making : (slots values : List ℕ) (room : ℕ) (beta : Beta) (lists : Lists) → (pg_refusal beta slots values room lists).number ≡ 0
-    → record { reply = of_making Made; port = fresh room beta } ≡ make_call room beta
+    → record { reply = of_making (Ok tt); port = fresh room beta } ≡ make_call room beta
 unfolding pg_refusal
 making slots values room beta lists e =
     let one = or_else_zero (lengths_refusal slots values lists) _ e in
@@ -110,7 +110,7 @@ making slots values room beta lists e =
     let four = or_else_zero (beta_refusal beta) _ three.1 in
     making_done room beta (not-false _ (verdict_if_zero _ 2 0 three.0)) (not-false _ (verdict_if_zero _ 3 0 four.0))
 
-made_carries : (room : ℕ) (beta : Beta) → record { reply = of_making Made; port = fresh room beta } ≡ make_call room beta
+made_carries : (room : ℕ) (beta : Beta) → record { reply = of_making (Ok tt); port = fresh room beta } ≡ make_call room beta
     → Carries room beta 0 [] (make_call room beta).port
 unfolding packets_of
 made_carries room beta done =

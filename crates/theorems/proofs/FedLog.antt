@@ -11,7 +11,7 @@ use Rattle.model.specs.declared.Cause.{Cause}
 use Rattle.model.specs.declared.Cause.TheVariants as causes
 use Rattle.model.specs.declared.LossKind.{LossKind}
 use Rattle.model.specs.declared.LossKind.TheVariants.{PushedOut, Preempted}
-use Rattle.model.specs.declared.SlotAnswer.TheVariants as slot
+use Rattle.std.specs.Prelude.{Some, None, Ok}
 use Rattle.model.specs.Packets.{Arrival, nobody}
 use Rattle.model.specs.Record.{Entry, sent_at, lost_to}
 use Rattle.model.specs.Course.{Decision, held, rejected, losing, entries_of}
@@ -81,7 +81,7 @@ refused_blank reply r =
     let packet : reply.packet ≡ nobody = cc in
     (omega (arith, cause_some r.0), (ap (λ (n : PacketNumber). n.0) given, ap (λ (p : Packet). p.number.0) packet))
 
-pub log_idle : (now : ℕ) → Log (ends (slot_at now) (of_slot slot.Idle) ∷ []) [] [] now 1
+pub log_idle : (now : ℕ) → Log (ends (slot_at now) (of_slot (Ok None)) ∷ []) [] [] now 1
 unfolding flat_map slots_from
 log_idle now =
     record {
@@ -91,7 +91,7 @@ log_idle now =
       none_refused = (λ r. omega (arith, refused_blank _ r), tt);
     }
 
-pub log_sent : (now : ℕ) (p : Packet) → 0 < p.number.0 → Log (ends (slot_at now) (of_slot (slot.Sent p)) ∷ []) (sent_at (slot_at now) p ∷ []) [] now 1
+pub log_sent : (now : ℕ) (p : Packet) → 0 < p.number.0 → Log (ends (slot_at now) (of_slot (Ok (Some p))) ∷ []) (sent_at (slot_at now) p ∷ []) [] now 1
 unfolding flat_map slots_from
 log_sent now p some =
     record {

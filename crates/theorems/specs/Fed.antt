@@ -1,6 +1,6 @@
 -- A fresh live port that is fed a trace slot by slot decides as PG's run does. The feed ends every slot, idle or not, and after the last arrival it ends
 -- slots until nothing is held. What the port told, written as a record, is the three lists that PG's call leaves. The proof is in proofs/Fed.antt.
-use Rattle.std.specs.Prelude.{ℕ, zero, suc, ◌≡◌, cond, length, eqb}
+use Rattle.std.specs.Prelude.{ℕ, zero, suc, ◌≡◌, cond, Some, None, Ok, length, eqb}
 use mathlib.Core.List.{List, [], ◌∷◌, ◌++◌, flat_map}
 use Rattle.model.specs.declared.Slot.{Slot}
 use Rattle.model.specs.declared.Beta.{Beta}
@@ -8,8 +8,6 @@ use Rattle.model.specs.declared.Cause.{Cause}
 use Rattle.model.specs.declared.Fate.TheVariants as fates
 use Rattle.model.specs.declared.LossKind.TheVariants as kinds
 use Rattle.model.specs.declared.ArrivalAnswer.TheVariants as arrival
-use Rattle.model.specs.declared.SlotAnswer.TheVariants as slot
-use Rattle.model.specs.declared.MakingAnswer.TheVariants as making
 use Rattle.model.specs.Packets.{packet_of, Arrival, arrivals, slots_until, following}
 use Rattle.model.specs.Record.{Entry, Lists, fate_number, sent_at, rejected_at, lost_to, record_of}
 use Rattle.model.specs.Course.{first}
@@ -102,7 +100,7 @@ told (ends now reply) = cond (eqb reply.number (fate_number fates.Sent)) (sent_a
 -- what holds of a feed where PG's call accepts the trace
 pub record AsPG (slots values : List ℕ) (room : ℕ) (beta : Beta) (lists : Lists) (feed : Feed) : Type 0 where
   -- the making answered made, and no call of the feed is refused
-  pub made : (make_call room beta).reply ≡ of_making making.Made
+  pub made : (make_call room beta).reply ≡ of_making (Ok tt)
   pub none_refused : NoneRefused feed.calls
   -- each arrival's answer carries the number that the packet has in the trace, a held one's too
   pub numbers : flat_map arrival_in feed.calls ≡ arrivals slots values
@@ -111,7 +109,7 @@ pub record AsPG (slots values : List ℕ) (room : ℕ) (beta : Beta) (lists : Li
   -- at the end nothing is held, and one end of slot more answers idle and hands back the same port
   pub held_none : feed.port.held ≡ 0
   pub queue_empty : queue_of feed.port ≡ []
-  pub then_idle : end_of_slot_call feed.port ≡ record { reply = of_slot slot.Idle; port = feed.port }
+  pub then_idle : end_of_slot_call feed.port ≡ record { reply = of_slot (Ok None); port = feed.port }
   -- what the port told are the entries of PG's run, in order
   pub entries : flat_map told feed.calls ≡ pg_run room beta (arrivals slots values)
   -- and written as a record the three lists that PG's call leaves
@@ -135,10 +133,10 @@ RefusalSeen =
 abbrev pub FedByHand : Type 0
 FedByHand =
     (fed (1 ∷ 4 ∷ []) (5 ∷ 7 ∷ []) 2 (record { num = 3; den = 1 })).calls
-    ≡ arrives (record { 0 = 1 }) 5 (of_arrival (arrival.Held (record { 0 = 1 })))
-    ∷ ends (record { 0 = 1 }) (of_slot (slot.Sent (packet_of 1 5)))
-    ∷ ends (record { 0 = 2 }) (of_slot slot.Idle)
-    ∷ ends (record { 0 = 3 }) (of_slot slot.Idle)
-    ∷ arrives (record { 0 = 4 }) 7 (of_arrival (arrival.Held (record { 0 = 2 })))
-    ∷ ends (record { 0 = 4 }) (of_slot (slot.Sent (packet_of 2 7)))
+    ≡ arrives (record { 0 = 1 }) 5 (of_arrival (Ok (arrival.Held (record { 0 = 1 }))))
+    ∷ ends (record { 0 = 1 }) (of_slot (Ok (Some (packet_of 1 5))))
+    ∷ ends (record { 0 = 2 }) (of_slot (Ok None))
+    ∷ ends (record { 0 = 3 }) (of_slot (Ok None))
+    ∷ arrives (record { 0 = 4 }) 7 (of_arrival (Ok (arrival.Held (record { 0 = 2 }))))
+    ∷ ends (record { 0 = 4 }) (of_slot (Ok (Some (packet_of 2 7))))
     ∷ []

@@ -9,18 +9,18 @@ use Rattle.runs_policy.proofs.mf.Goals as goal
 pub finish_mf-requires : goal.finish_mf-requires
 finish_mf-requires c = let start = c in
     let a = start.args in
-    let accepted = ap verdict_of (sym c.in-Accepted.is) ∙ c.check_mf.ensures in
+    let accepted = ap verdict_of (sym c.in-Ok.is) ∙ c.check_mf.ensures in
     mf_ready a.slots.now a.values.now a.room _ a.marking accepted
 
-pub returns-in-Refused : goal.returns-in-Refused
+pub returns-in-Err : goal.returns-in-Err
 unfolding mf_call
-returns-in-Refused c =
-    refused _ _ _ c.in-Refused.refusal (ap verdict_of (sym c.in-Refused.is) ∙ c.check_mf.ensures)
+returns-in-Err c =
+    refused _ _ _ c.in-Err.refusal (ap verdict_of (sym c.in-Err.is) ∙ c.check_mf.ensures)
 
-pub returns-in-Accepted : goal.returns-in-Accepted
+pub returns-in-Ok : goal.returns-in-Ok
 unfolding mf_call
-returns-in-Accepted c = let start = c in
+returns-in-Ok c = let start = c in
     let a = start.args in
-    let accepted = ap verdict_of (sym c.in-Accepted.is) ∙ c.check_mf.ensures in
+    let accepted = ap verdict_of (sym c.in-Ok.is) ∙ c.check_mf.ensures in
     c.finish_mf.ensures
     ∙ not_refused _ _ _ accepted

@@ -19,8 +19,8 @@ slice_bounds-keep-end c = let n = c.entries-n.result in
     let less : n ≤ record_limits.packets = omega (arith, c.entries-n.ensures) in
     sym (length-take-le n _ less)
 
-pub slice_bounds-kept-end-in-Accepted : goal.slice_bounds-kept-end-in-Accepted
-slice_bounds-kept-end-in-Accepted c = let n = c.entries-n.result in
+pub slice_bounds-kept-end-in-Ok : goal.slice_bounds-kept-end-in-Ok
+slice_bounds-kept-end-in-Ok c = let n = c.entries-n.result in
     let less : n ≤ record_limits.packets = omega (arith, c.entries-n.ensures) in
     let keep = c.keep-tested in
     let long = keep.auto.kept ∙ length-take-le n _ less in
@@ -39,26 +39,26 @@ finish-requires c = let a = c.args in
     let n = c.entries-n.result in
     let less : n ≤ record_limits.packets = omega (arith, c.entries-n.ensures) in
     let keep = c.keep-tested in
-    let accepted = ap verdict_of (sym c.in-Accepted.is) ∙ keep.ensures.0 in
+    let accepted = ap verdict_of (sym c.in-Ok.is) ∙ keep.ensures.0 in
     let zeros = length-take-le n _ less in
     let long = keep.auto.kept ∙ zeros in
     plan_runs a.slots.now a.values.now a.room lists accepted _ keep.new.kept _ _
     (zeros ∙ entry_for_each_lem a.slots.now a.values.now a.room lists accepted n c.entries-n.ensures)
     (take_at keep.new.kept _ n long) keep.ensures.1
 
-pub returns-in-Refused : goal.returns-in-Refused
+pub returns-in-Err : goal.returns-in-Err
 unfolding plan_call
-returns-in-Refused c =
-    refused _ _ _ c.in-Refused.refusal (ap verdict_of (sym c.in-Refused.is) ∙ c.keep-tested.ensures.0)
+returns-in-Err c =
+    refused _ _ _ c.in-Err.refusal (ap verdict_of (sym c.in-Err.is) ∙ c.keep-tested.ensures.0)
 
-pub returns-in-Accepted : goal.returns-in-Accepted
+pub returns-in-Ok : goal.returns-in-Ok
 unfolding plan_call
-returns-in-Accepted c = let a = c.args in
+returns-in-Ok c = let a = c.args in
     let lists = lists_of a.fates.now a.whens.now a.bys.now in
     let n = c.entries-n.result in
     let less : n ≤ record_limits.packets = omega (arith, c.entries-n.ensures) in
     let keep = c.keep-tested in
-    let accepted = ap verdict_of (sym c.in-Accepted.is) ∙ keep.ensures.0 in
+    let accepted = ap verdict_of (sym c.in-Ok.is) ∙ keep.ensures.0 in
     let zeros = length-take-le n _ less in
     let long = keep.auto.kept ∙ zeros in
     c.finish.ensures

@@ -9,19 +9,19 @@ use Rattle.runs_rule.proofs.pg.Goals as goal
 pub finish-requires : goal.finish-requires
 finish-requires c = let start = c in
     let a = start.args in
-    let accepted = ap verdict_of (sym c.in-Accepted.is) ∙ c.check_pg.ensures in
+    let accepted = ap verdict_of (sym c.in-Ok.is) ∙ c.check_pg.ensures in
     let ready = pg_ready a.slots.now a.values.now a.room _ a.beta accepted in
     record { ready = ready.0; le_room = ready.1 }
 
-pub returns-in-Refused : goal.returns-in-Refused
+pub returns-in-Err : goal.returns-in-Err
 unfolding pg_call
-returns-in-Refused c =
-    refused _ _ _ c.in-Refused.refusal (ap verdict_of (sym c.in-Refused.is) ∙ c.check_pg.ensures)
+returns-in-Err c =
+    refused _ _ _ c.in-Err.refusal (ap verdict_of (sym c.in-Err.is) ∙ c.check_pg.ensures)
 
-pub returns-in-Accepted : goal.returns-in-Accepted
+pub returns-in-Ok : goal.returns-in-Ok
 unfolding pg_call
-returns-in-Accepted c = let start = c in
+returns-in-Ok c = let start = c in
     let a = start.args in
-    let accepted = ap verdict_of (sym c.in-Accepted.is) ∙ c.check_pg.ensures in
+    let accepted = ap verdict_of (sym c.in-Ok.is) ∙ c.check_pg.ensures in
     c.finish.ensures
     ∙ not_refused _ _ _ accepted

@@ -3,17 +3,17 @@
 use mathlib.Core.Path.{◌≡◌, refl, sym, ap, ◌∙◌}
 use mathlib.Core.List.{List, [], ◌∷◌}
 use Rattle.model.specs.declared.Packet.{Packet}
-use Rattle.model.specs.declared.SlotAnswer.{SlotAnswer}
+use Rattle.std.specs.Prelude.{Option, Ok}
 use Rattle.model.specs.Answers.{of_slot}
 use Rattle.steps.specs.Window.{oldest_of, oldest_says, Oldest}
 use borrow.Author.Tests.{not-true, not-false}
 use Rattle.steps.proofs.Guarding.{by_pass, by_fail, lies_within_lem}
 use Rattle.steps.proofs.oldest.Goals as goal
 
-told : {r : SlotAnswer} (queue : List Packet) → r ≡ oldest_of queue → Oldest queue r
-told {r} queue e = record { says = ap of_slot e ∙ says queue; is = e }
+told : {r : Option Packet} (queue : List Packet) → r ≡ oldest_of queue → Oldest queue r
+told {r} queue e = record { says = ap (λ (x : Option Packet). of_slot (Ok x)) e ∙ says queue; is = e }
   where
-    says : (queue : List Packet) → of_slot (oldest_of queue) ≡ oldest_says queue
+    says : (queue : List Packet) → of_slot (Ok (oldest_of queue)) ≡ oldest_says queue
     says [] = refl
     says (p ∷ queue) = refl
 

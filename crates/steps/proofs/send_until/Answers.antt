@@ -27,7 +27,7 @@ returns-in_default c = let loop = c in
     sendings_kept a.w a.numbers.now a.values.now a.from a.until first (window loop.loop-slot.head a.w.tail) now
     (sym c.lies_within.ensures ∙ not-false _ c.if-not-lies_within.false-raw)
     (left_idle a.numbers.now a.values.now a.w.tail a.until.0 a.w.head a.from.0 first loop.loop-slot.head loop.loop-slot.slot now loop.loop-slot.invariant.3
-    (λ p e. c.in_default.not-Sent p (c.oldest.ensures ∙ e)))
+    (λ p e. c.in_default.not-Some p (c.oldest.ensures ∙ e)))
     refl
 
 pub loop-slot-preserved : goal.loop-slot-preserved
@@ -36,10 +36,10 @@ loop-slot-preserved c = let enter = c.enter in
     let a = c.args in
     let first = lists_of a.fates.now a.whens.now a.bys.now in
     let now = lists_of loop.loop-slot.fates loop.loop-slot.whens loop.loop-slot.bys in
-    let sent = sym c.oldest.ensures ∙ c.in-Sent.is in
+    let sent = sym c.oldest.ensures ∙ c.in-Some.is in
     let turn =
     left_turn a.numbers.now a.values.now a.w.tail a.until.0 a.w.head a.from.0 first loop.loop-slot.head loop.loop-slot.slot now loop.loop-slot.invariant.3
-    c.in-Sent.p (lists_of enter.new.fates enter.new.whens enter.new.bys) c.loop-slot-test.true sent enter.ensures in
+    c.in-Some.p (lists_of enter.new.fates enter.new.whens enter.new.bys) c.loop-slot-test.true sent enter.ensures in
     (enter.auto.fates ∙ loop.loop-slot.invariant.0, enter.auto.whens ∙ loop.loop-slot.invariant.1, enter.auto.bys ∙ loop.loop-slot.invariant.2, turn.1)
 
 pub returns : goal.returns

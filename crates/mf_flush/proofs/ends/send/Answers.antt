@@ -9,13 +9,13 @@ pub returns-in_default : goal.returns-in_default
 returns-in_default c = let a = c.args in
     let told = (c.oldest.ensures.passed (within_lies a.w a.numbers.now a.values.now c.requires)).is in (
       sent_none a.slot a.w.head a.w.tail a.numbers.now a.values.now c.requires (lists_of a.fates.now a.whens.now a.bys.now)
-          (λ p e. c.in_default.not-Sent p (told ∙ e)),
+          (λ p e. c.in_default.not-Some p (told ∙ e)),
       refl,
     )
 
 pub returns : goal.returns
 returns c = let a = c.args in (
   (sent_oldest a.slot a.w.head a.w.tail a.numbers.now a.values.now c.requires (lists_of a.fates.now a.whens.now a.bys.now)
-      c.in-Sent.p (sym (c.oldest.ensures.passed (within_lies a.w a.numbers.now a.values.now c.requires)).is ∙ c.in-Sent.is) _ c.enter.ensures).1,
+      c.in-Some.p (sym (c.oldest.ensures.passed (within_lies a.w a.numbers.now a.values.now c.requires)).is ∙ c.in-Some.is) _ c.enter.ensures).1,
   refl,
 )

@@ -6,6 +6,7 @@ use lib.ListN.{length-take}
 use Rattle.model.specs.declared.Packet.{Packet}
 use Rattle.model.specs.declared.PacketNumber.{PacketNumber}
 use Rattle.model.specs.declared.ArrivalAnswer.TheVariants.{Held, HeldLosing, Rejected}
+use Rattle.std.specs.Prelude.{Ok}
 use Rattle.model.specs.Answers.{of_arrival}
 use Rattle.model.specs.Port.{PortState}
 use Rattle.queue.specs.declared.Choice.TheVariants.{Hold, Reject, Lose}
@@ -50,14 +51,14 @@ hold-requires-in-Lose c =
 pub returns-in-Hold : goal.returns-in-Hold
 returns-in-Hold c =
     let number : PacketNumber = record { 0 = c.args.self.last.0 + 1 } in
-    ap (λ (after : PortState). record { reply = of_arrival (Held number); port = after }) c.hold.ensures
+    ap (λ (after : PortState). record { reply = of_arrival (Ok (Held number)); port = after }) c.hold.ensures
     ∙ by_choice (state_of c.args.self) (values_whole c.args.self c.well_formed.0) (numbers_whole c.args.self c.well_formed.0) c.args.value Hold (sym (told _ _ c.decide.ensures) ∙ c.in-Hold.is) c.requires.self_value c.requires.value_value c.requires.last_lt_number
 
 pub returns-in-Reject : goal.returns-in-Reject
 returns-in-Reject c =
     let P = whole_placed c.args.self c.well_formed.0 c.requires.self_value in
     let number : PacketNumber = record { 0 = c.args.self.last.0 + 1 } in
-    ap (λ (after : PortState). record { reply = of_arrival (Rejected number); port = after }) (holds_same (state_of c.args.self) P.1 number)
+    ap (λ (after : PortState). record { reply = of_arrival (Ok (Rejected number)); port = after }) (holds_same (state_of c.args.self) P.1 number)
     ∙ by_choice (state_of c.args.self) (values_whole c.args.self c.well_formed.0) (numbers_whole c.args.self c.well_formed.0) c.args.value Reject (sym (told _ _ c.decide.ensures) ∙ c.in-Reject.is) c.requires.self_value c.requires.value_value c.requires.last_lt_number
 
 pub returns-in-Lose : goal.returns-in-Lose
@@ -66,7 +67,7 @@ returns-in-Lose c =
     let number : PacketNumber = record { 0 = c.args.self.last.0 + 1 } in
     let p : Packet = record { number = number; value = c.args.value } in
     let allowed = now_allowed (state_of c.args.self) (values_whole c.args.self c.well_formed.0) (numbers_whole c.args.self c.well_formed.0) c.args.value (Lose c.in-Lose.place c.in-Lose.kind) (sym (told _ _ c.decide.ensures) ∙ c.in-Lose.is) P.0 in
-    ap₂ (λ (lost : Packet) (after : PortState). record { reply = of_arrival (HeldLosing number (record { packet = lost; kind = c.in-Lose.kind })); port = after })
+    ap₂ (λ (lost : Packet) (after : PortState). record { reply = of_arrival (Ok (HeldLosing number (record { packet = lost; kind = c.in-Lose.kind }))); port = after })
     c.take-taken.ensures.packet
     (rest_holds (state_of c.args.self) P.1 P.0 c.in-Lose.place allowed c.take-taken.result c.take-taken.ensures p (state_of c.hold-in-Lose.result) c.hold-in-Lose.ensures)
     ∙ by_choice (state_of c.args.self) (values_whole c.args.self c.well_formed.0) (numbers_whole c.args.self c.well_formed.0) c.args.value (Lose c.in-Lose.place c.in-Lose.kind) (sym (told _ _ c.decide.ensures) ∙ c.in-Lose.is) c.requires.self_value c.requires.value_value c.requires.last_lt_number

@@ -3,7 +3,7 @@ use mathlib.Core.Path.{◌≡◌, ap₂, sym, ◌∙◌}
 use mathlib.Core.Bool.{true}
 use native.Mathlib.Omega.{arith}
 use Rattle.model.specs.declared.Packet.{Packet}
-use Rattle.model.specs.declared.SlotAnswer.TheVariants.{Sent}
+use Rattle.std.specs.Prelude.{Ok, Some}
 use Rattle.model.specs.Answers.{of_slot}
 use Rattle.model.specs.Port.{PortState, sound}
 use Rattle.port.specs.State.{state_of}
@@ -18,8 +18,8 @@ returns-then-not-is_sound c = slot_unsound (state_of c.args.self) (sym c.is_soun
 pub returns-then-idle : goal.returns-then-idle
 returns-then-idle c = slot_idle (state_of c.args.self) (sym c.is_sound.ensures ∙ c.if-not-is_sound.false) c.if-idle.true
 
-pub take-sent-requires : goal.take-sent-requires
-take-sent-requires c =
+pub take-requires : goal.take-requires
+take-requires c =
     let P = whole_placed c.args.self c.well_formed.0 (sym c.is_sound.ensures ∙ c.if-not-is_sound.false) in
     record { placed = P.1; held_le_room = P.0; place_lt_held = omega (arith, c.if-idle.false) }
 
@@ -28,6 +28,6 @@ returns c =
     let port = state_of c.args.self in
     let sounds : sound port ≡ true = sym c.is_sound.ensures ∙ c.if-not-is_sound.false in
     let P = whole_placed c.args.self c.well_formed.0 sounds in
-    let take = c.take-sent.ensures in
-    ap₂ (λ (sent : Packet) (after : PortState). record { reply = of_slot (Sent sent); port = after }) take.packet take.left
+    let take = c.take.ensures in
+    ap₂ (λ (sent : Packet) (after : PortState). record { reply = of_slot (Ok (Some sent)); port = after }) take.packet take.left
     ∙ slot_sends port sounds (omega (arith, c.if-idle.false, held_length port P.1))

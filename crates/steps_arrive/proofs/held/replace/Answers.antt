@@ -16,7 +16,7 @@ returns c = let start = c in
     let held = c.hold in
     let lost = c.lose-rest in
     let entered = c.enter in
-    let fate = c.fate in
+    let fate = c.into in
     replaced_in a.w a.numbers.now a.values.now start.requires.within a.slot a.p (lists_of a.fates.now a.whens.now a.bys.now) a.place a.kind start.requires.place_bound
     fate.result fate.ensures (lists_of entered.new.fates entered.new.whens entered.new.bys) entered.ensures
     (lent lost.result lost.new.numbers lost.new.values) lost.ensures
