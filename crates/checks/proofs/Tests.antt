@@ -8,6 +8,7 @@ use native.Mathlib.Omega.{arith}
 use lib.ListN.{length, get_or, take, drop, length-drop, drop_of_length-le}
 use lib.Seq.{take_all, drop-cons}
 use lib.Dec.{leb, ltb}
+use Rattle.std.proofs.lemmas.Bool.Decides.{nat_tests}
 use borrow.Author.Tests.{leb-true}
 use Rattle.model.specs.Limits.{within}
 use Rattle.model.specs.Port.{all, rises_from}
@@ -18,11 +19,11 @@ one true t rest = refl
 one false true rest = refl
 one false false rest = refl
 
-both : (bad s t rest : Bool) → (not ((bad || not s) || not t) && rest) ≡ (not bad && ((s && t) && rest))
-both true s t rest = refl
-both false true true rest = refl
-both false true false rest = refl
-both false false t rest = refl
+-- a number that is not above the one before, or is above the last, is bad
+both : (before n last : ℕ) (bad rest : Bool)
+    → (not (bad || (leb n before || ltb last n)) && rest) ≡ (not bad && ((ltb before n && leb n last) && rest))
+both before n last true rest = refl
+both before n last false rest = grind (arith, nat_tests)
 
 -- the parts of a test
 pub left_part : (a b : Bool) → a && b ≡ true → a ≡ true
@@ -53,10 +54,13 @@ module _ (list : List ℕ) (i : ℕ) where
   rest inside = drop-cons list i 0 inside ∙ ap (λ (k : ℕ). get_or list i 0 ∷ drop k list) (sym (add-one i))
 
   module _ (test : ℕ → Bool) where
-    pub all_turn : i < length list → (bad : Bool)
-        → (not (bad || not (test (get_or list i 0))) && all test (drop (i + 1) list)) ≡ (not bad && all test (drop i list))
+    pub all_turn : i < length list → (bad t : Bool) → t ≡ test (get_or list i 0)
+        → (not (bad || not t) && all test (drop (i + 1) list)) ≡ (not bad && all test (drop i list))
     unfolding all
-    all_turn inside bad = one bad (test (get_or list i 0)) (all test (drop (i + 1) list)) ∙ ap (λ (l : List ℕ). not bad && all test l) (sym (rest inside))
+    all_turn inside bad t e =
+        one bad t (all test (drop (i + 1) list))
+        ∙ ap (λ (u : Bool). not bad && (u && all test (drop (i + 1) list))) e
+        ∙ ap (λ (l : List ℕ). not bad && all test l) (sym (rest inside))
 
     -- the part from a place to the end is what is left
     pub all_behind : (n : ℕ) → length list ≡ n → all test (take (n - i) (drop i list)) ≡ all test (drop i list)
@@ -68,10 +72,12 @@ module _ (list : List ℕ) (i : ℕ) where
 
   module _ (before last : ℕ) where
     pub rises_turn : i < length list → (bad : Bool)
-        → (not ((bad || not (ltb before (get_or list i 0))) || not (leb (get_or list i 0) last)) && rises_from (get_or list i 0) last (drop (i + 1) list))
+        → (not (bad || (leb (get_or list i 0) before || ltb last (get_or list i 0))) && rises_from (get_or list i 0) last (drop (i + 1) list))
         ≡ (not bad && rises_from before last (drop i list))
     unfolding rises_from
-    rises_turn inside bad = both bad (ltb before (get_or list i 0)) (leb (get_or list i 0) last) (rises_from (get_or list i 0) last (drop (i + 1) list)) ∙ ap (λ (l : List ℕ). not bad && rises_from before last l) (sym (rest inside))
+    rises_turn inside bad =
+        both before (get_or list i 0) last bad (rises_from (get_or list i 0) last (drop (i + 1) list))
+        ∙ ap (λ (l : List ℕ). not bad && rises_from before last l) (sym (rest inside))
 
     pub rises_done : length list ≤ i → (bad : Bool) → not bad ≡ (not bad && rises_from before last (drop i list))
     unfolding rises_from

@@ -29,10 +29,8 @@ pub fn values_ok(values: &[u32]) -> bool
     ensures { result ≡ all value_ok values.now }
 {
     let mut bad = false;
-    let mut i = 0;
-    while i < values.len() {
-        bad = bad | !value_ok(values[i]);
-        i += 1;
+    for value in values {
+        bad |= !value_ok(*value);
     }
     !bad
 }
@@ -43,12 +41,9 @@ pub fn numbers_rise(numbers: &[u32], last: u32) -> bool
 {
     let mut bad = false;
     let mut before = 0;
-    let mut i = 0;
-    while i < numbers.len() {
-        let number = numbers[i];
-        bad = bad | !(before < number) | !(number <= last);
-        before = number;
-        i += 1;
+    for number in numbers {
+        bad |= (*number <= before) | (last < *number);
+        before = *number;
     }
     !bad
 }
@@ -58,10 +53,8 @@ pub fn all_zero(places: &[u32]) -> bool
     ensures { result ≡ all (eqb 0) places.now }
 {
     let mut bad = false;
-    let mut i = 0;
-    while i < places.len() {
-        bad = bad | !(0 == places[i]);
-        i += 1;
+    for place in places {
+        bad |= *place != 0;
     }
     !bad
 }

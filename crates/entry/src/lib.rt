@@ -22,16 +22,14 @@ pub fn put(list: &mut [u32], place: usize, number: u32)
 pub fn place_of(number: PacketNumber) -> usize
     ensures { result ≡ place_of number }
 {
-    let n = number.0;
-    if n == 0 { 0 } else { (n - 1) as usize }
+    number.0.saturating_sub(1) as usize
 }
 
 // The entry of a list for the packet with this number; 0 where it has none.
 fn entry_of(list: &[u32], number: PacketNumber) -> u32
     ensures { result ≡ get_or list.now (place_of number) 0 }
 {
-    let place = place_of(number);
-    if place < list.len() { list[place] } else { 0 }
+    list.get(place_of(number)).copied().unwrap_or(0)
 }
 
 // The slot in which the packet with this number arrives; 0 where the list has none.

@@ -8,7 +8,7 @@ use mathlib.Core.List.{List, [], ◌∷◌}
 use native.Mathlib.Numerals.{add-one}
 use native.Mathlib.Omega.{arith}
 use lib.ListN.{length, get_or, set, drop, length-set, replicate, length-replicate, get_or-replicate, drop_of_length-le}
-use lib.Seq.{drop-cons, set-get_or, get_or-set_same, get_or-set_other, ext_get_or}
+use lib.Seq.{drop-cons, set-get_or, get_or-set_same, get_or-set_other}
 use lib.Dec.{leb}
 use borrow.Author.Tests.{le-leb, lt-leb}
 use Rattle.model.specs.Packets.{arrivals}
@@ -102,27 +102,6 @@ held_counted slots room kept held H (suc k) b = rw (add-one k) at (H.next k (ome
 held_fits : (slots : List ℕ) (room : ℕ) (kept held : List ℕ) → Keepable slots room kept → HeldAs slots room kept held → Fitting slots room kept true
 held_fits slots room kept held K H =
     count_fits slots room kept K (λ (j : ℕ). get_or held j 0) (held_counted slots room kept held H) H.roomy
-
--- the entries before i are 0
-pub record Clearing (n : ℕ) (kept : List ℕ) (i : ℕ) : Type 0 where
-  pub same : length kept ≡ n
-  pub zeros : (k : ℕ) → k < i → get_or kept k 0 ≡ 0
-
-module _ (n : ℕ) (kept : List ℕ) where
-  pub clearing_start : length kept ≡ n → Clearing n kept 0
-  clearing_start same = record { same = same; zeros = λ k b. absurd (omega arith) }
-
-  module _ (i : ℕ) (C : Clearing n kept i) where
-    pub clearing_turn : i < length kept → Clearing n (set kept i 0) (i + 1)
-    clearing_turn inside =
-        record {
-          same = simp length-set C.same;
-          zeros = λ k b. eqb_cases k i _ (λ t q. rw (q, get_or-set_same kept i 0 0 inside) refl) λ t q. rw (get_or-set_other kept i k 0 0 q) (C.zeros k (omega arith));
-        }
-
-    pub clearing_end : length kept ≤ i → kept ≡ replicate n 0
-    clearing_end done =
-        ext_get_or 0 kept (replicate n 0) (C.same ∙ sym (length-replicate n 0)) λ k b. C.zeros k (omega arith) ∙ sym (get_or-replicate n k 0 0 (omega (arith, C.same)))
 
 -- nothing is kept yet
 pub held_none : (slots : List ℕ) (room : ℕ) (kept held : List ℕ) → kept ≡ replicate (length slots) 0 → held ≡ replicate (length slots) 0 → HeldAs slots room kept held
@@ -258,42 +237,12 @@ pub record Reaching (slots : List ℕ) (room : ℕ) (held : List ℕ) (place i :
   pub roomy : (k : ℕ) → place ≤ k → k < i → get_or held k 0 < room
 
 module _ (slots : List ℕ) (room : ℕ) (held : List ℕ) (place : ℕ) where
-  pub reaching_start : place < length slots → Reaching slots room held place place
-  reaching_start inside = record { from = omega arith; inside = inside; staying = λ k l m. absurd (omega arith); roomy = λ k l m. absurd (omega arith) }
-
   module _ (i : ℕ) (R : Reaching slots room held place i) where
     pub reaching_full : room ≤ get_or held i 0 → Reach slots room held place place
     reaching_full full =
         record {
           spans = λ l. absurd (omega arith);
           none = λ l kept K H free. more_over slots room kept held place K H (omega (arith, R.from, R.inside)) free i R.from R.inside R.staying R.roomy full;
-        }
-
-    roomy_here : get_or held i 0 < room → (k : ℕ) → place ≤ k → k < i + 1 → get_or held k 0 < room
-    roomy_here low k l m = eqb_cases k i _ (λ t q. rw q low) λ t q. R.roomy k l (omega arith)
-
-    pub reaching_turn : get_or held i 0 < room → pause slots i ≤ get_or held i 0 → i + 1 < length slots → Reaching slots room held place (i + 1)
-    reaching_turn low stays more =
-        record {
-          from = omega (arith, R.from);
-          inside = more;
-          staying = λ k l m. eqb_cases k i _ (λ t q. rw q stays) λ t q. R.staying k l (omega arith);
-          roomy = roomy_here low;
-        }
-
-    pub reaching_end : get_or held i 0 < room → (i + 1 < length slots → get_or held i 0 < pause slots i) → Reach slots room held place (i + 1)
-    reaching_end low ends =
-        record {
-          spans = λ s.
-              record {
-                inside = omega (arith, R.inside);
-                roomy = roomy_here low;
-                staying = λ k l m. R.staying k l (omega arith);
-                gone = λ k e b.
-                    let same : k ≡ i = omega arith in
-                    rw same (ends b);
-              };
-          none = λ l. absurd (omega (arith, R.from));
         }
 
 -- the counts from a place on are raised one by one

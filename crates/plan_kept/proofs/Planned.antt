@@ -4,7 +4,7 @@ use mathlib.Core.Path.{◌≡◌, refl, sym, ap, ◌∙◌}
 use mathlib.Core.Bool.{Bool, true, false, ◌&&◌, cond}
 use mathlib.Core.List.{List, ◌++◌}
 use native.Mathlib.Omega.{arith}
-use lib.ListN.{length, replicate, length-append, length-replicate}
+use lib.ListN.{length, replicate, length-append}
 use lib.Dec.{eqb}
 use borrow.Author.Tests.{eq-eqb, ne_eqb}
 use Rattle.model.specs.declared.Refusal.{Refusal}
@@ -22,7 +22,7 @@ use Rattle.steps.specs.Places.{packets_at}
 use Rattle.trace.proofs.Laws.{cause_refuses}
 use Rattle.plan_order.specs.Order.{Inside, entry_for_each, OrderedFrom}
 use Rattle.plan_order.proofs.Merging.{each_has_entry}
-use Rattle.plan_kept.specs.Keep.{Keepable, TakenInTurn, kept_after}
+use Rattle.plan_kept.specs.Keep.{TakenInTurn, kept_after}
 
 -- the part of a list that was written is within it
 pub part_fits : (n : ℕ) (part rest : List ℕ) → length part ≡ n → n ≤ length (part ++ rest)
@@ -48,15 +48,6 @@ module _ (slots values : List ℕ) (room : ℕ) where
       }
 
   module _ (A : AcceptedAlone) where
-    pub none_keepable : (kept : List ℕ) → kept ≡ replicate (length slots) 0 → Keepable slots room kept
-    none_keepable kept none =
-        record {
-          same = ap length none ∙ length-replicate (length slots) 0;
-          room_to = A.room_to;
-          slot_from = A.packets.slot_from;
-          sorted = A.packets.never_down;
-        }
-
     -- what `by_falling_value` made of a list as long as the trace, and is lent to be taken in turn
     module _ (zeros part order : List ℕ) (same : length zeros ≡ length slots) (lent : order ≡ part)
         (G : Guarded (entry_for_each values zeros) (OrderedFrom 0 values part) (part ≡ zeros)) where

@@ -2,7 +2,7 @@
 // so that a packet is tried on the arrivals that would find it still held, and on no others.
 #![tactic(auto)]
 
-ghost use Rattle.std.specs.Prelude.{◌≡◌, [], ◌∷◌, ◌<◌, length, replicate};
+ghost use Rattle.std.specs.Prelude.{◌≡◌, [], ◌∷◌, ◌<◌, length};
 ghost use Rattle.model.specs.Packets.{arrivals};
 ghost use Rattle.model.specs.Refusals.{value_ok};
 ghost use Rattle.model.specs.Policies.Plan.{plan_kept};
@@ -20,8 +20,8 @@ fn reach(slots: &[u32], room: usize, held: &[u16], place: usize) -> usize
     requires { Triable slots.now held.now place }
     ensures { Reach slots.now room held.now place result }
 {
-    let mut i = place;
-    while i + 1 < slots.len() {
+    let last = slots.len() - 1;
+    for i in place..last {
         let there = held[i];
         if room <= there as usize {
             return place;
@@ -29,12 +29,11 @@ fn reach(slots: &[u32], room: usize, held: &[u16], place: usize) -> usize
         if (there as u32) < slots[i + 1] - slots[i] {
             return i + 1;
         }
-        i += 1;
     }
-    if room <= held[i] as usize {
+    if room <= held[last] as usize {
         return place;
     }
-    i + 1
+    slots.len()
 }
 
 // One more is held just after each arrival from a place on, up to an end.
@@ -42,10 +41,8 @@ fn raise(held: &mut [u16], place: usize, end: usize)
     requires { Raisable held.old place end }
     ensures { Raised place end held.old held.new }
 {
-    let mut i = place;
-    while i < end {
+    for i in place..end {
         held[i] += 1;
-        i += 1;
     }
 }
 
@@ -74,21 +71,8 @@ fn keep_in_turn(slots: &[u32], room: usize, order: &[u16], held: &mut [u16], kep
     requires inside { Inside (length slots.now) order.now }
     ensures { TakenInTurn slots.now room order.now kept.old kept.new }
 {
-    let mut i = 0;
-    while i < order.len() {
-        keep_if_fits(slots, room, held, kept, order[i] as usize);
-        i += 1;
-    }
-}
-
-// Keeps nothing yet, whatever was kept before.
-fn clear(kept: &mut [u8])
-    ensures { kept.new ≡ replicate (length kept.old) 0 }
-{
-    let mut i = 0;
-    while i < kept.len() {
-        kept[i] = 0;
-        i += 1;
+    for place in order {
+        keep_if_fits(slots, room, held, kept, *place as usize);
     }
 }
 
@@ -101,7 +85,7 @@ fn keep_all(slots: &[u32], values: &[u32], room: usize, kept: &mut [u8])
     let mut order = [0u16; Record::PACKETS];
     let mut held = [0u16; Record::PACKETS];
     let n = slots.len();
-    clear(kept);
+    kept.fill(0);
     by_falling_value(values, &mut order[..n]);
     keep_in_turn(slots, room, &order[..n], &mut held[..n], kept);
 }

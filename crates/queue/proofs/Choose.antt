@@ -1,13 +1,17 @@
 -- The code's tests lead to the choice that the definitions make; and the choice, applied to the queue, is the rule's decision.
-use Prim.Native.Nat.{ℕ, suc, min, ◌*◌, ◌≤◌, ◌<◌}
+use Prim.Native.Nat.{ℕ, suc, ◌+◌, ◌*◌, ◌≤◌, ◌<◌}
 use mathlib.Core.Path.{◌≡◌, refl, sym, ap, ◌∙◌}
 use mathlib.Core.Bool.{Bool, true, false, cond}
 use mathlib.Core.List.{List, [], ◌∷◌, ◌++◌}
 use native.Mathlib.Omega.{arith}
 use native.Mathlib.Nat.{mul-le-mul_right, min-le_left, min-le_right}
-use lib.ListN.{length, get_or, length-map}
-use lib.Dec.{leb}
-use borrow.Author.Tests.{lt-ltb, le-ltb, leb-true, leb-false}
+use lib.ListN.{length, length-map}
+use lib.Dec.{ltb}
+use borrow.Author.Tests.{lt-ltb, le-ltb, lt-leb, leb-false}
+use Rattle.std.proofs.Common.{None, Some}
+use Rattle.std.specs.List.{position, position_or_len}
+use Rattle.std.proofs.lemmas.List.Recursion.{is_position_or_len}
+use Rattle.model.specs.Policies.Greedy.{below_all, loser_at}
 use Rattle.model.specs.declared.Packet.{Packet}
 use Rattle.model.specs.declared.Beta.{Beta}
 use Rattle.model.specs.declared.LossKind.TheVariants.{PushedOut, Preempted}
@@ -20,22 +24,29 @@ use Rattle.model.specs.declared.Rule.{Rule}
 use Rattle.model.specs.declared.Rule.TheVariants.{Greedy, PG}
 use Rattle.queue.specs.declared.Choice.{Choice}
 use Rattle.queue.specs.declared.Choice.TheVariants.{Hold, Reject, Lose}
-use Rattle.queue.specs.Choose.{lowest_of, newest_of, overflow_choice, greedy_choice, choose, applied}
+use Rattle.queue.specs.Choose.{lowest_with, lowest_of, newest_of, preempts, overflow_choice, greedy_choice, choose, applied}
 use Rattle.laws.specs.AtOnce.{at_once}
-use Rattle.queue.proofs.Loser.{arrival_loses, held_loses}
+use Rattle.queue.proofs.Loser.{arrival_loses, held_lower, held_loses, newest_inside, lowest_at_most}
 
 module _ (values : List ℕ) (arrival : ℕ) where
-  pub overflow_rejects : arrival ≤ lowest_of values → Reject ≡ overflow_choice values arrival
-  unfolding overflow_choice
-  overflow_rejects h = rw (arrival_loses values arrival h, le-ltb (length values) (length values) (omega arith)) refl
+  pub overflow_empty : lowest_of values ≡ None → Reject ≡ overflow_choice values arrival
+  unfolding lowest_of overflow_choice loser_at below_all
+  overflow_empty e = go values e
+    where
+      go : (values : List ℕ) → lowest_of values ≡ None → Reject ≡ overflow_choice values arrival
+      go [] e = refl
+      go (v ∷ values) e = absurd (cc)
 
-  pub overflow_pushes : arrival ≤ 4294967295 → (low place : ℕ) → low ≡ lowest_of values → place ≡ newest_of low values → low < arrival
-      → Lose place PushedOut ≡ overflow_choice values arrival
-  unfolding overflow_choice
-  overflow_pushes fits low place l e h =
-      let lost = held_loses values arrival fits (omega arith) in
-      let p : place ≡ newest_of (lowest_of values) values = e ∙ ap (λ (m : ℕ). newest_of m values) l in
-      rw (p, lost.1, lt-ltb _ _ lost.0) refl
+  module _ (low : ℕ) (is : lowest_of values ≡ Some low) where
+    pub overflow_rejects : arrival ≤ low → Reject ≡ overflow_choice values arrival
+    unfolding overflow_choice
+    overflow_rejects h =
+        rw (arrival_loses values arrival (held_lower values low is arrival h), le-ltb (length values) (length values) (omega arith)) refl
+
+    pub overflow_pushes : (place : ℕ) → low < arrival → newest_of low values ≡ Some place → Lose place PushedOut ≡ overflow_choice values arrival
+    unfolding overflow_choice
+    overflow_pushes place h found =
+        rw (held_loses values low is arrival place h found, lt-ltb _ _ (newest_inside low values place found)) refl
 
   module _ (room : ℕ) where
     pub greedy_holds : length values < room → Hold ≡ greedy_choice room values arrival
@@ -46,68 +57,72 @@ module _ (values : List ℕ) (arrival : ℕ) where
     unfolding greedy_choice
     greedy_overflows h = rw (le-ltb _ _ h) refl
 
-    -- no held value is preempted: as plain greedy
-    pub not_preempted : (beta : Beta) → length values ≤ preempted_at beta arrival values
-        → choose room (PG beta) values arrival ≡ greedy_choice room values arrival
-    unfolding choose
-    not_preempted beta h = rw (le-ltb _ _ h) refl
-
-    pub preempts : (beta : Beta) → preempted_at beta arrival values < length values
-        → Lose (preempted_at beta arrival values) Preempted ≡ choose room (PG beta) values arrival
-    unfolding choose
-    preempts beta h = rw (lt-ltb _ _ h) refl
-
     -- plain greedy has no beta step
     pub plain : choose room Greedy values arrival ≡ greedy_choice room values arrival
     unfolding choose
     plain = rw (le-ltb (length values) (length values) (omega arith)) refl
 
--- the beta step by its test
-preempted_cases : (G : Type 0) (beta : Beta) (arrival v : ℕ) (values : List ℕ)
-    → (v * beta.num ≤ arrival * beta.den → preempted_at beta arrival (v ∷ values) ≡ 0 → G)
-    → (arrival * beta.den < v * beta.num → preempted_at beta arrival (v ∷ values) ≡ suc (preempted_at beta arrival values) → G)
-    → G
-unfolding preempted_at
-preempted_cases G beta arrival v values goes stays = go (leb (v * beta.num) (arrival * beta.den)) refl
+-- a place, or the length where there is none, read as a place if there is one
+place_cases : (n most place : ℕ) (none : Choice) → cond (ltb n most) (Some n) None ≡ Some place → Lose place Preempted ≡ cond (ltb n most) (Lose n Preempted) none
+place_cases n most place none e = go (ltb n most) e
   where
-    go : (t : Bool) → leb (v * beta.num) (arrival * beta.den) ≡ t → G
-    go true e = goes (leb-true _ _ e) (rw e refl)
-    go false e = stays (leb-false _ _ e) (rw e refl)
+    go : (t : Bool) → cond t (Some n) None ≡ Some place → Lose place Preempted ≡ cond t (Lose n Preempted) none
+    go true e = cc
+    go false e = absurd (cc)
 
--- the least of two, times a number: it is one of the two products
-min_cases : (G : Type 0) (a b n : ℕ) → (min a b * n ≡ a * n → G) → (min a b * n ≡ b * n → b < a → G) → G
-min_cases G a b n left right = go (leb a b) refl
+no_place : (n most : ℕ) (none : Choice) → cond (ltb n most) (Some n) None ≡ None → none ≡ cond (ltb n most) (Lose n Preempted) none
+no_place n most none e = go (ltb n most) e
   where
-    go : (t : Bool) → leb a b ≡ t → G
-    go true e = let h : a ≤ b = leb-true _ _ e in left (ap (λ (m : ℕ). m * n) (omega arith))
-    go false e = let h : b < a = leb-false _ _ e in right (ap (λ (m : ℕ). m * n) (omega arith)) h
+    go : (t : Bool) → cond t (Some n) None ≡ None → none ≡ cond t (Lose n Preempted) none
+    go true e = absurd (cc)
+    go false e = refl
 
 module _ (beta : Beta) (arrival : ℕ) where
-  -- the lowest value is not preempted: none is
-  pub lowest_stays : (values : List ℕ) → arrival * beta.den < lowest_of values * beta.num → length values ≤ preempted_at beta arrival values
-  unfolding lowest_of
-  lowest_stays [] h = omega arith
-  lowest_stays (v ∷ values) h =
-      preempted_cases _ beta arrival v values
-      (λ k e. absurd (omega (arith, mul-le-mul_right beta.num (min-le_left v (lowest_of values)))))
-      (λ k e. rw e (omega (arith, lowest_stays values (omega (arith, mul-le-mul_right beta.num (min-le_right v (lowest_of values)))))))
+  -- the beta step finds the first value that an arrival preempts
+  preempted_first : (values : List ℕ) → preempted_at beta arrival values ≡ position_or_len (preempts beta arrival) values
+  unfolding preempted_at
+  preempted_first values = is_position_or_len (preempted_at beta arrival) (preempts beta arrival) refl
+      (λ v values.
+      let more : suc (preempted_at beta arrival values) ≡ 1 + preempted_at beta arrival values = omega arith in
+      ap (λ (n : ℕ). cond (preempts beta arrival v) 0 n) more)
+      values
 
-  -- the lowest value is preempted: some value is
-  pub lowest_goes : (values : List ℕ) → ((k : ℕ) → get_or values k 0 ≤ 4294967295) → 0 < length values
-      → lowest_of values * beta.num ≤ arrival * beta.den → preempted_at beta arrival values < length values
+  module _ (values : List ℕ) (room : ℕ) where
+    pub preempts_first : (place : ℕ) → position (preempts beta arrival) values ≡ Some place → Lose place Preempted ≡ choose room (PG beta) values arrival
+    unfolding choose
+    preempts_first place e = rw (preempted_first values) (place_cases _ _ place _ e)
+
+    -- no held value is preempted: as plain greedy
+    pub preempts_none : position (preempts beta arrival) values ≡ None → greedy_choice room values arrival ≡ choose room (PG beta) values arrival
+    unfolding choose
+    preempts_none e = rw (preempted_first values) (no_place _ _ _ e)
+
+  none_first : (values : List ℕ) → length values ≤ preempted_at beta arrival values → None ≡ position (preempts beta arrival) values
+  none_first values h = rw (← preempted_first values, le-ltb _ _ h) refl
+
+  -- the lowest value is not preempted: none is
+  stays_with : (low : ℕ) (values : List ℕ) → arrival * beta.den < lowest_with low values * beta.num → length values ≤ preempted_at beta arrival values
+  unfolding lowest_with preempted_at
+  stays_with low [] h = omega arith
+  stays_with low (v ∷ values) h =
+      let here : arrival * beta.den < v * beta.num = omega (arith, mul-le-mul_right beta.num (min-le_left v (lowest_with low values))) in
+      let rest = stays_with low values (omega (arith, mul-le-mul_right beta.num (min-le_right v (lowest_with low values)))) in
+      rw (lt-leb _ _ here) (omega arith)
+
+  pub lowest_stays : (values : List ℕ) (low : ℕ) → lowest_of values ≡ Some low → preempts beta arrival low ≡ false → None ≡ position (preempts beta arrival) values
+  unfolding lowest_of preempted_at
+  lowest_stays [] low is h = refl
+  lowest_stays (v ∷ values) low is h =
+      let same : lowest_with v values ≡ low = cc in
+      let stays : arrival * beta.den < lowest_with v values * beta.num = rw same (leb-false _ _ h) in
+      let here : arrival * beta.den < v * beta.num = omega (arith, mul-le-mul_right beta.num (lowest_at_most v values)) in
+      let rest = stays_with v values stays in
+      none_first (v ∷ values) (rw (lt-leb _ _ here) (omega arith))
+
+  pub nothing_held : (values : List ℕ) → lowest_of values ≡ None → None ≡ position (preempts beta arrival) values
   unfolding lowest_of
-  lowest_goes [] fits some h = absurd (omega arith)
-  lowest_goes (v ∷ []) fits some h =
-      let v-fits : v ≤ 4294967295 = fits 0 in
-      let low : min v 4294967295 ≡ v = omega arith in
-      preempted_cases _ beta arrival v [] (λ k e. rw e (omega arith)) (λ k e. absurd (omega (arith, ap (λ (m : ℕ). m * beta.num) low)))
-  lowest_goes (v ∷ w ∷ values) fits some h =
-      preempted_cases _ beta arrival v (w ∷ values)
-      (λ k e. rw e (omega arith))
-      (λ k e.
-      min_cases _ v (lowest_of (w ∷ values)) beta.num
-      (λ m. absurd (omega arith))
-      (λ m less. rw e (omega (arith, lowest_goes (w ∷ values) (λ k. fits (suc k)) (omega arith) (omega arith)))))
+  nothing_held [] is = refl
+  nothing_held (v ∷ values) is = absurd (cc)
 
 -- a queue has as many values as packets
 values_length : (queue : List Packet) → length (values_of queue) ≡ length queue

@@ -1,6 +1,8 @@
 -- A rule's decision on an arrival, from the values alone, and what it makes of the queue.
-use Rattle.std.specs.Prelude.{ℕ, suc, min, ◌-◌, ◌^◌, cond, List, [], ◌∷◌, ◌++◌, length, get_or, ltb, eqb}
+use Rattle.std.specs.Prelude.{ℕ, suc, min, ◌*◌, Bool, cond, Option, None, Some, option_map, List, [], ◌∷◌, ◌++◌, length, get_or, leb, ltb, eqb}
+use Rattle.std.specs.Option.{option_or}
 use Rattle.model.specs.declared.Packet.{Packet}
+use Rattle.model.specs.declared.Beta.{Beta}
 use Rattle.model.specs.declared.LossKind.TheVariants.{PushedOut, Preempted}
 use Rattle.model.specs.declared.Fate.TheVariants.{Rejected}
 use Rattle.model.specs.Numbers.{fate_number}
@@ -14,16 +16,24 @@ use Rattle.model.specs.declared.Rule.TheVariants.{Greedy, PG}
 use Rattle.queue.specs.declared.Choice.{Choice}
 use Rattle.queue.specs.declared.Choice.TheVariants.{Hold, Reject, Lose}
 
--- the lowest of some values; the greatest u32 of none
-unfoldable pub lowest_of : List ℕ → ℕ
-lowest_of [] = 2 ^ 32 - 1
-lowest_of (v ∷ values) = min v (lowest_of values)
+-- the lowest of a number and some values
+unfoldable pub lowest_with : ℕ → List ℕ → ℕ
+lowest_with low [] = low
+lowest_with low (v ∷ values) = min v (lowest_with low values)
 
--- the newest place with this value, past the end where there is none
-unfoldable pub newest_of : ℕ → List ℕ → ℕ
-newest_of value [] = 0
-newest_of value (v ∷ values) =
-    cond (ltb (newest_of value values) (length values)) (suc (newest_of value values)) (cond (eqb v value) 0 (suc (length values)))
+-- the lowest of some values, if there are any
+unfoldable pub lowest_of : List ℕ → Option ℕ
+lowest_of [] = None
+lowest_of (v ∷ values) = Some (lowest_with v values)
+
+-- the newest place with this value, if there is one
+unfoldable pub newest_of : ℕ → List ℕ → Option ℕ
+newest_of value [] = None
+newest_of value (v ∷ values) = option_or (option_map suc (newest_of value values)) (cond (eqb v value) (Some 0) None)
+
+-- an arrival preempts a packet of this value
+abbrev pub preempts : Beta → ℕ → ℕ → Bool
+preempts beta arrival v = leb (v * beta.num) (arrival * beta.den)
 
 -- the place that the beta step finds; plain greedy has no beta step
 abbrev pub beta_place : Rule → ℕ → List ℕ → ℕ

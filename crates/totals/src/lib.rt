@@ -2,7 +2,7 @@
 // on the way through the lists, so a turn costs little.
 #![tactic(auto)]
 
-ghost use Rattle.std.specs.Prelude.{◌≡◌, cond, ◌≤◌, length, eqb};
+ghost use Rattle.std.specs.Prelude.{◌≡◌, cond, ◌≤◌, length};
 ghost use Rattle.model.specs.Limits.{record_limits};
 ghost use Rattle.laws.specs.WellFormed.{sum};
 ghost use Rattle.totals.specs.Totals.{ValuesFit, Countable, tally_by, CountedOrNone};
@@ -17,24 +17,12 @@ pub fn only_if(test: bool, n: u32) -> u32
     if test { n } else { 0 }
 }
 
-fn is_same(a: u32, b: u32) -> bool
-    ensures { result ≡ eqb a b }
-{
-    a == b
-}
-
 fn sum_of(values: &[u32]) -> u32
     requires values_len_bound { length values.now ≤ record_limits.packets }
     requires values_fit { ValuesFit values.now }
     ensures { result ≡ sum values.now }
 {
-    let mut all = 0;
-    let mut i = 0;
-    while i < values.len() {
-        all += values[i];
-        i += 1;
-    }
-    all
+    values.iter().sum()
 }
 
 fn tally_of(values: &[u32], fates: &[u32], fate: Fate) -> Tally
@@ -44,12 +32,10 @@ fn tally_of(values: &[u32], fates: &[u32], fate: Fate) -> Tally
     let number = u32::from(fate);
     let mut count = 0;
     let mut value = 0;
-    let mut i = 0;
-    while i < fates.len() {
-        let counted = is_same(fates[i], number);
+    for (worth, fate) in values.iter().zip(fates) {
+        let counted = *fate == number;
         count += only_if(counted, 1);
-        value += only_if(counted, values[i]);
-        i += 1;
+        value += only_if(counted, *worth);
     }
     Tally { count, value }
 }

@@ -1,27 +1,10 @@
--- The invariant: no packet before place i qualifies, so the first that does is to be found from there on. The places left are the measure.
-use native.Mathlib.Omega.{arith}
-use Rattle.queue.proofs.Search.{preempted_here, preempted_turn, preempted_none, product_fits}
+-- Where nothing is held, or even the lowest value is not preempted, none is. Else `position` finds the first.
+use Rattle.std.proofs.Common.{◌∙◌, sym}
+use Rattle.queue.proofs.Choose.{nothing_held, lowest_stays}
 use Rattle.queue.proofs.preempted.Goals as goal
 
-pub overflow_mul-limit : goal.overflow_mul-limit
-overflow_mul-limit c = record { fits = product_fits _ _ (omega arith) (omega arith) }
+pub returns-in_err-low : goal.returns-in_err-low
+returns-in_err-low c = c.from_residual.ensures ∙ nothing_held c.args.beta c.args.arrival c.args.values.now (sym c.requires ∙ c.in_err-low.was)
 
-pub overflow_cast-values : goal.overflow_cast-values
-overflow_cast-values c = omega (arith, c.shared_slice_known-1.given c.loop-i.i)
-
-pub overflow_mul-values : goal.overflow_mul-values
-overflow_mul-values c = record { fits = product_fits _ _ (omega (arith, c.shared_slice_known-1.given c.loop-i.i)) (omega arith) }
-
-pub returns-then-values-i : goal.returns-then-values-i
-returns-then-values-i c = let loop = c in
-    let a = loop.args in
-    omega (arith, preempted_here a.values.now loop.loop-i.i (omega arith) a.beta a.arrival c.if-values-i.true)
-
-pub loop-i-preserved : goal.loop-i-preserved
-loop-i-preserved c = let loop = c in
-    let a = loop.args in
-    omega (arith, preempted_turn a.values.now loop.loop-i.i (omega arith) a.beta a.arrival c.if-values-i.false)
-
-pub returns : goal.returns
-returns c = let a = c.args in
-    omega (arith, preempted_none a.values.now c.loop-i.i (omega arith) a.beta a.arrival)
+pub returns-then-not-goes : goal.returns-then-not-goes
+returns-then-not-goes c = lowest_stays c.args.beta c.args.arrival c.args.values.now c.in_ok-low.low (sym c.requires ∙ c.in_ok-low.was) (sym c.preempts-goes.ensures ∙ c.if-not-goes.true)

@@ -1,16 +1,14 @@
--- What is added and what is left come to the sum.
-use native.Mathlib.Omega.{arith}
-use Rattle.totals.proofs.Counting.{value_le, added_none, added_more, added_all}
+-- The sum fits, since each value is in range and there are few; it is the definition's.
+use Rattle.std.proofs.Common.{rules, ◌≡◌, ◌<◌, ◌^◌, ◌∙◌, sym}
+use Rattle.std.specs.List as List
+use Rattle.totals.proofs.Counting.{sum_by_each, sum_fits}
 use Rattle.totals.proofs.sum_of.Goals as goal
 
-pub loop-i-init : goal.loop-i-init
-loop-i-init c = added_none c.args.values.now
-
-pub overflow_add-all : goal.overflow_add-all
-overflow_add-all c = let loop = c in omega (arith, loop.loop-i.invariant.all_le, loop.requires.values_len_bound, value_le loop.args.values.now loop.requires.values_fit loop.loop-i.i c.loop-i-test.true, c.loop-i-test.true)
-
-pub loop-i-preserved : goal.loop-i-preserved
-loop-i-preserved c = let loop = c in added_more loop.args.values.now loop.loop-i.all loop.loop-i.i loop.requires.values_fit loop.loop-i.invariant c.loop-i-test.true
+pub sum-requires-clause-fits : goal.sum-requires-clause-fits
+sum-requires-clause-fits c =
+    let fits : List.sum c.args.values.now < 2 ^ 32 = sum_fits c.args.values.now c.requires.values_len_bound c.requires.values_fit in search rules
 
 pub returns : goal.returns
-returns c = let loop = c in added_all loop.args.values.now loop.loop-i.all loop.loop-i.i loop.loop-i.invariant c.loop-i-test.false
+returns c =
+    let added : c.sum.result ≡ List.sum c.args.values.now = search rules in
+    added ∙ sym (sum_by_each c.args.values.now)
