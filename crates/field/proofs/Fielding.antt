@@ -5,6 +5,8 @@ use mathlib.Core.Path.{◌≡◌, refl, sym, ap, ◌∙◌}
 use mathlib.Core.Bool.{Bool, true, false, cond, ◌&&◌, and-true, and-false, and-eq-true_iff}
 use mathlib.Core.List.{List, [], ◌∷◌}
 use native.Mathlib.Numerals.{add-one}
+use Rattle.std.proofs.Math.Nat.{pow-suc, pow-le-pow_right}
+use Rattle.std.proofs.Common.{◌^◌, lit<}
 use native.Mathlib.Omega.{arith}
 use lib.ListN.{length, get_or, drop, drop_of_length-le}
 use lib.Seq.{drop-cons}
@@ -17,8 +19,9 @@ use Rattle.signs.specs.Signs.{quote}
 use Rattle.field.specs.Fields.{lettered, same, all_digits, value_from, Closed as Closing, «open», closed, behind, up_to_quote, inside_or, held_in}
 use Rattle.field.specs.declared.Stage.{Stage}
 use Rattle.field.specs.declared.Stage.TheVariants.{Fresh, Bare, Open, Closed, Bad}
+use Rattle.std.specs.Prelude.{Option, None, Some}
 use Rattle.field.specs.declared.Kind.{Kind}
-use Rattle.field.specs.declared.Kind.TheVariants.{Neither, Name, Number}
+use Rattle.field.specs.declared.Kind.TheVariants.{Name, Number}
 use Rattle.field.specs.declared.Field.{Field}
 use Rattle.field.specs.Reading.{fresh_field, bad_field, staged, digit_taken, letter_taken, taken, field_by, field_after, whole_kind, kind_by, kind_at, is_fresh}
 
@@ -35,36 +38,21 @@ too_many_lem : (d n : ℕ) → 7 ≤ d → within 1 7 (d + suc n) ≡ false
 unfolding within
 too_many_lem d n h = rw (lt-leb (d + suc n) 7 (omega arith), and-false) refl
 
--- a power of ten
-unfoldable pub ten_to : ℕ → ℕ
-ten_to zero = 1
-ten_to (suc d) = 10 * ten_to d
-
-ten_fits : (d : ℕ) → d < 7 → ten_to d ≤ 1000000
-unfolding ten_to
-ten_fits zero h = omega arith
-ten_fits (suc zero) h = omega arith
-ten_fits (suc (suc zero)) h = omega arith
-ten_fits (suc (suc (suc zero))) h = omega arith
-ten_fits (suc (suc (suc (suc zero)))) h = omega arith
-ten_fits (suc (suc (suc (suc (suc zero))))) h = omega arith
-ten_fits (suc (suc (suc (suc (suc (suc zero)))))) h = omega arith
-ten_fits (suc (suc (suc (suc (suc (suc (suc d))))))) h = absurd (omega arith)
+ten_fits : (d : ℕ) → d < 7 → 10 ^ d ≤ 1000000
+ten_fits d few = pow-le-pow_right {n = 10} (lit< tt) {i = d} {j = 6} (omega arith)
 
 -- a number has at most seven digits and is no longer than they are
 pub record SoundField (f : Field) : Type 0 where
   pub few : f.digits ≤ 7
-  pub small : f.number < ten_to f.digits
+  pub small : f.number < 10 ^ f.digits
 
 staged_sound : (stage : Stage) (f : Field) → SoundField f → SoundField (staged stage f)
 staged_sound stage f sound = record { few = sound.few; small = sound.small }
 
 pub bad_sound : SoundField bad_field
-unfolding ten_to
 bad_sound = record { few = omega arith; small = omega arith }
 
 pub fresh_sound : SoundField fresh_field
-unfolding ten_to
 fresh_sound = record { few = omega arith; small = omega arith }
 
 within_none : (n : ℕ) → n ≡ 0 → within 1 7 n ≡ false
@@ -80,31 +68,31 @@ absurd_zero zero h = absurd (h refl)
 absurd_zero (suc d) h = omega arith
 
 -- what k letters of a name, or d digits that make n, and the rest of what a field holds make together
-unfoldable pub kind_after : List ℕ → ℕ → ℕ → ℕ → List ℕ → Kind
+unfoldable pub kind_after : List ℕ → ℕ → ℕ → ℕ → List ℕ → Option Kind
 kind_after name k d n rest =
-    cond (eqb d 0 && same rest (drop k name)) Name
-    (cond (eqb k 0 && (within 1 7 (d + length rest) && all_digits rest)) (Number (value_from n rest)) Neither)
+    cond (eqb d 0 && same rest (drop k name)) (Some Name)
+    (cond (eqb k 0 && (within 1 7 (d + length rest) && all_digits rest)) (Some (Number (value_from n rest))) None)
 
-abbrev pub held_with : List ℕ → Field → List ℕ → Kind
+abbrev pub held_with : List ℕ → Field → List ℕ → Option Kind
 held_with name f rest = kind_after name f.letters f.digits f.number rest
 
-abbrev closed_kind : List ℕ → Field → Closing → Kind
-closed_kind name f «open» = Neither
+abbrev closed_kind : List ℕ → Field → Closing → Option Kind
+closed_kind name f «open» = None
 closed_kind name f (closed inner) = held_with name f inner
 
-abbrev after_closed : List ℕ → Field → List ℕ → Kind
+abbrev after_closed : List ℕ → Field → List ℕ → Option Kind
 after_closed name f [] = held_with name f []
-after_closed name f (b ∷ rest) = Neither
+after_closed name f (b ∷ rest) = None
 
-abbrev pub field_from_by : Stage → List ℕ → Field → List ℕ → Kind
+abbrev pub field_from_by : Stage → List ℕ → Field → List ℕ → Option Kind
 field_from_by Fresh name f rest = held_with name f (held_in rest)
 field_from_by Bare name f rest = held_with name f rest
 field_from_by Open name f rest = closed_kind name f (up_to_quote rest)
 field_from_by Closed name f rest = after_closed name f rest
-field_from_by Bad name f rest = Neither
+field_from_by Bad name f rest = None
 
 -- what a field that has been read so far and its rest make together
-unfoldable pub field_from : List ℕ → Field → List ℕ → Kind
+unfoldable pub field_from : List ℕ → Field → List ℕ → Option Kind
 field_from name f rest = field_from_by f.stage name f rest
 
 from_by : (name : List ℕ) (f : Field) (stage : Stage) → f.stage ≡ stage → (rest : List ℕ) → field_from name f rest ≡ field_from_by stage name f rest
@@ -130,28 +118,28 @@ module _ (name : List ℕ) (letters : Lettered name) where
       (λ e. rw (drop_of_length-le name (ltb-false _ _ e)) refl)
 
   -- nothing below a digit is in a name or in a number
-  pub low_neither : (b k d n : ℕ) (rest : List ℕ) → b < 48 → kind_after name k d n (b ∷ rest) ≡ Neither
+  pub low_none : (b k d n : ℕ) (rest : List ℕ) → b < 48 → kind_after name k d n (b ∷ rest) ≡ None
   unfolding kind_after all_digits within
-  low_neither b k d n rest low =
+  low_none b k d n rest low =
       rw (not_same b k rest (omega arith), lt-leb 48 b low, and-false, and-false, and-false) refl
 
-  letter_neither : (b k d n : ℕ) (rest : List ℕ) → within 48 57 b ≡ false → eqb d 0 && same (b ∷ rest) (drop k name) ≡ false
-      → kind_after name k d n (b ∷ rest) ≡ Neither
+  letter_none : (b k d n : ℕ) (rest : List ℕ) → within 48 57 b ≡ false → eqb d 0 && same (b ∷ rest) (drop k name) ≡ false
+      → kind_after name k d n (b ∷ rest) ≡ None
   unfolding kind_after all_digits
-  letter_neither b k d n rest no_digit other = rw (other, no_digit, and-false, and-false) refl
+  letter_none b k d n rest no_digit other = rw (other, no_digit, and-false, and-false) refl
 
   digit_kind : (b k d n : ℕ) (rest : List ℕ) → within 48 57 b ≡ true
-      → kind_after name k d n (b ∷ rest) ≡ cond (eqb k 0 && (within 1 7 (d + suc (length rest)) && all_digits rest)) (Number (value_from (n * 10 + (b - 48)) rest)) Neither
+      → kind_after name k d n (b ∷ rest) ≡ cond (eqb k 0 && (within 1 7 (d + suc (length rest)) && all_digits rest)) (Some (Number (value_from (n * 10 + (b - 48)) rest))) None
   unfolding kind_after all_digits value_from
   digit_kind b k d n rest is_digit =
       rw (not_same b k rest (within_to 48 57 b is_digit), and-false, is_digit) refl
 
   -- one byte more of what a field holds: the line is bad whatever follows, or the byte is taken
   module _ (stage : Stage) (b : ℕ) (f : Field) (sound : SoundField f) (G : Field → Type 0)
-      (none : ((rest : List ℕ) → held_with name f (b ∷ rest) ≡ Neither) → G bad_field)
+      (none : ((rest : List ℕ) → held_with name f (b ∷ rest) ≡ None) → G bad_field)
       (some : (g : Field) → g.stage ≡ stage → SoundField g → ((rest : List ℕ) → held_with name f (b ∷ rest) ≡ held_with name g rest) → G g) where
     digit_cases : within 48 57 b ≡ true → G (digit_taken stage b f)
-    unfolding digit_taken kind_after ten_to
+    unfolding digit_taken kind_after
     digit_cases is_digit =
         let k = f.letters in
         let d = f.digits in
@@ -163,7 +151,7 @@ module _ (name : List ℕ) (letters : Lettered name) where
         (λ e7. cond_cases G (leb 1000000 n) _ _
         (λ big. absurd (omega (arith, leb-true 1000000 n big, leb-false 7 d e7, sound.small, ten_fits d (leb-false 7 d e7))))
         (λ big. some (record { stage = stage; letters = k; digits = d + 1; number = n * 10 + (b - 48) }) refl
-        (record { few = omega (arith, leb-false 7 d e7); small = rw (add-one) (omega (arith, sound.small, within_to 48 57 b is_digit)) })
+        (record { few = omega (arith, leb-false 7 d e7); small = rw (add-one, pow-suc 10 d) (omega (arith, sound.small, within_to 48 57 b is_digit)) })
         (λ rest.
         let more : d + suc (length rest) ≡ d + 1 + length rest = omega arith in
         digit_kind b k d n rest is_digit ∙ rw (ne_eqb (d + 1) 0 (λ s. omega arith), more) refl))))
@@ -175,14 +163,14 @@ module _ (name : List ℕ) (letters : Lettered name) where
         let d = f.digits in
         let n = f.number in
         cond_cases G (ltb 0 d) _ _
-        (λ e. none (λ rest. letter_neither b k d n rest no_digit (rw (ne_eqb d 0 (λ s. omega (arith, ltb-true 0 d e))) refl)))
+        (λ e. none (λ rest. letter_none b k d n rest no_digit (rw (ne_eqb d 0 (λ s. omega (arith, ltb-true 0 d e))) refl)))
         (λ e. cond_cases G (leb (length name) k) _ _
-        (λ past. none (λ rest. letter_neither b k d n rest no_digit (rw (drop_of_length-le name (leb-true (length name) k past), and-false) refl)))
+        (λ past. none (λ rest. letter_none b k d n rest no_digit (rw (drop_of_length-le name (leb-true (length name) k past), and-false) refl)))
         (λ past. cond_cases G (eqb (get_or name k 0) b) _ _
         (λ is. some (record { stage = stage; letters = k + 1; digits = d; number = n }) refl
         (record { few = sound.few; small = sound.small })
         (λ rest. rw (drop-cons name k 0 (leb-false (length name) k past), eq-eqb b (get_or name k 0) (sym (eqb-true _ _ is)), no_digit, and-false, and-false, ne_eqb (k + 1) 0 (λ s. omega arith), add-one) refl))
-        (λ is. none (λ rest. letter_neither b k d n rest no_digit
+        (λ is. none (λ rest. letter_none b k d n rest no_digit
         (rw (drop-cons name k 0 (leb-false (length name) k past), ne_eqb b (get_or name k 0) (λ s. eqb-false _ _ is (sym s)), and-false) refl)))))
 
     taken_cases : G (taken stage name b f)
@@ -190,12 +178,12 @@ module _ (name : List ℕ) (letters : Lettered name) where
     taken_cases = cond_cases G (within 48 57 b) _ _ digit_cases letter_cases
 
   inside_law : (f : Field) (b : ℕ) (rest : List ℕ) (c : Closing) → b < 48 → held_with name f (inside_or (b ∷ rest) c) ≡ closed_kind name f c
-  inside_law f b rest «open» low = low_neither b _ _ _ rest low
+  inside_law f b rest «open» low = low_none b _ _ _ rest low
   inside_law f b rest (closed inner) low = refl
 
-  behind_neither : (f : Field) (b : ℕ) (c : Closing) → ((inner : List ℕ) → held_with name f (b ∷ inner) ≡ Neither) → closed_kind name f (behind b c) ≡ Neither
-  behind_neither f b «open» none = refl
-  behind_neither f b (closed inner) none = none inner
+  behind_none : (f : Field) (b : ℕ) (c : Closing) → ((inner : List ℕ) → held_with name f (b ∷ inner) ≡ None) → closed_kind name f (behind b c) ≡ None
+  behind_none f b «open» none = refl
+  behind_none f b (closed inner) none = none inner
 
   behind_law : (f g : Field) (b : ℕ) (c : Closing) → ((inner : List ℕ) → held_with name f (b ∷ inner) ≡ held_with name g inner)
       → closed_kind name f (behind b c) ≡ closed_kind name g c
@@ -203,11 +191,11 @@ module _ (name : List ℕ) (letters : Lettered name) where
   behind_law f g b (closed inner) some = some inner
 
   -- a byte between the quotes that is none itself
-  open_none : (f : Field) (b : ℕ) (rest : List ℕ) → eqb b quote ≡ false → ((inner : List ℕ) → held_with name f (b ∷ inner) ≡ Neither)
-      → closed_kind name f (up_to_quote (b ∷ rest)) ≡ Neither
+  open_none : (f : Field) (b : ℕ) (rest : List ℕ) → eqb b quote ≡ false → ((inner : List ℕ) → held_with name f (b ∷ inner) ≡ None)
+      → closed_kind name f (up_to_quote (b ∷ rest)) ≡ None
   unfolding up_to_quote
   open_none f b [] other none = rw other refl
-  open_none f b (c ∷ rest) other none = behind_neither f b (up_to_quote (c ∷ rest)) none
+  open_none f b (c ∷ rest) other none = behind_none f b (up_to_quote (c ∷ rest)) none
 
   open_some : (f g : Field) (b : ℕ) (rest : List ℕ) → eqb b quote ≡ false → ((inner : List ℕ) → held_with name f (b ∷ inner) ≡ held_with name g inner)
       → closed_kind name f (up_to_quote (b ∷ rest)) ≡ closed_kind name g (up_to_quote rest)
@@ -219,7 +207,7 @@ module _ (name : List ℕ) (letters : Lettered name) where
   open_closes : (f : Field) (b : ℕ) (rest : List ℕ) → b ≡ quote → closed_kind name f (up_to_quote (b ∷ rest)) ≡ after_closed name f rest
   unfolding up_to_quote
   open_closes f b [] is = rw (eq-eqb b quote is) refl
-  open_closes f b (c ∷ rest) is = behind_neither f b (up_to_quote (c ∷ rest)) (λ inner. low_neither b _ _ _ inner (omega arith))
+  open_closes f b (c ∷ rest) is = behind_none f b (up_to_quote (c ∷ rest)) (λ inner. low_none b _ _ _ inner (omega arith))
 
   staged_closed : (f : Field) (rest : List ℕ) → after_closed name f rest ≡ after_closed name (staged Closed f) rest
   staged_closed f [] = refl
@@ -314,19 +302,19 @@ module _ (name : List ℕ) (letters : Lettered name) where
   pub kind_law : (f : Field) → SoundField f → kind_at name f ≡ field_from name f []
   kind_law f sound = kind_by_lem name f f.stage refl ∙ kind_turn f sound f.stage ∙ sym (from_by name f f.stage refl [])
 
-  low_turn : (f : Field) (b : ℕ) (rest : List ℕ) → b < 34 → (stage : Stage) → field_from_by stage name f (b ∷ rest) ≡ Neither
+  low_turn : (f : Field) (b : ℕ) (rest : List ℕ) → b < 34 → (stage : Stage) → field_from_by stage name f (b ∷ rest) ≡ None
   unfolding held_in
-  low_turn f b rest low Fresh = rw (ne_eqb b quote (λ e. omega arith)) (low_neither b _ _ _ rest (omega arith))
-  low_turn f b rest low Bare = low_neither b _ _ _ rest (omega arith)
-  low_turn f b rest low Open = open_none f b rest (ne_eqb b quote (λ e. omega arith)) (λ inner. low_neither b _ _ _ inner (omega arith))
+  low_turn f b rest low Fresh = rw (ne_eqb b quote (λ e. omega arith)) (low_none b _ _ _ rest (omega arith))
+  low_turn f b rest low Bare = low_none b _ _ _ rest (omega arith)
+  low_turn f b rest low Open = open_none f b rest (ne_eqb b quote (λ e. omega arith)) (λ inner. low_none b _ _ _ inner (omega arith))
   low_turn f b rest low Closed = refl
   low_turn f b rest low Bad = refl
 
   -- a control character spoils a field
-  pub low_field : (f : Field) (b : ℕ) (rest : List ℕ) → b < 34 → field_from name f (b ∷ rest) ≡ Neither
+  pub low_field : (f : Field) (b : ℕ) (rest : List ℕ) → b < 34 → field_from name f (b ∷ rest) ≡ None
   low_field f b rest low = from_by name f f.stage refl (b ∷ rest) ∙ low_turn f b rest low f.stage
 
-pub bad_from : (name rest : List ℕ) → field_from name bad_field rest ≡ Neither
+pub bad_from : (name rest : List ℕ) → field_from name bad_field rest ≡ None
 bad_from name rest = from_by name bad_field Bad refl rest
 
 pub fresh_from : (name rest : List ℕ) → field_from name fresh_field rest ≡ kind_after name 0 0 0 (held_in rest)

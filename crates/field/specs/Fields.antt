@@ -1,18 +1,13 @@
 -- The fields of a line, each of which may be quoted, and what one holds: a name, or a number of 1 to 7 digits. Nothing that a field may hold is a comma
 -- or a quote, so every comma parts two fields, and a quote is only the first or the last byte of one.
 use Rattle.std.specs.Prelude.{ℕ, ◌+◌, ◌-◌, ◌*◌, Bool, true, false, cond, ◌&&◌, List, [], ◌∷◌, length, eqb, ltb}
+use Rattle.std.specs.List.{slice_split}
 use Rattle.signs.specs.Signs.{comma, quote}
 use Rattle.model.specs.Limits.{within}
 
--- one byte more at the start of the first field
-abbrev pub starts_with : ℕ → List (List ℕ) → List (List ℕ)
-starts_with b [] = (b ∷ []) ∷ []
-starts_with b (field ∷ fields) = (b ∷ field) ∷ fields
-
 -- the fields of a line: every comma parts two, between quotes too; a line with no byte is one empty field
 unfoldable pub fields_of : List ℕ → List (List ℕ)
-fields_of [] = [] ∷ []
-fields_of (b ∷ line) = cond (eqb b comma) ([] ∷ fields_of line) (starts_with b (fields_of line))
+fields_of line = slice_split (λ (b : ℕ). eqb b comma) line
 
 -- two lists of bytes are the same
 unfoldable pub same : List ℕ → List ℕ → Bool

@@ -21,10 +21,9 @@ pub enum Stage {
     Bad,
 }
 
-// What a field holds: the header's name, a number, or neither.
+// What a field may hold: the header's name, or a number.
 #[derive(Clone, Copy)]
 pub enum Kind {
-    Neither,
     Name,
     Number(u32),
 }
@@ -53,141 +52,94 @@ impl Field {
     pub fn bad() -> Self
         ensures { result ≡ bad_field }
     {
-        Field {
-            stage: Stage::Bad,
-            letters: 0,
-            digits: 0,
-            number: 0,
-        }
+        Field::fresh().at(Stage::Bad)
     }
 
     // The same field at another stage.
     fn at(self, stage: Stage) -> Self
         ensures { result ≡ staged stage self }
     {
-        Field {
-            stage,
-            letters: self.letters,
-            digits: self.digits,
-            number: self.number,
-        }
+        Field { stage, ..self }
     }
 
     // A digit more.
+    #[tactic(auto, unfolding(crate::specs::Reading::digit_taken))]
     fn digit(self, stage: Stage, byte: u8) -> Self
         requires { 48 ≤ byte }
         ensures { result ≡ digit_taken stage byte self }
     {
-        if 0 < self.letters {
+        if 0 < self.letters || DIGITS <= self.digits || FULL <= self.number {
             return Field::bad();
         }
-        if DIGITS <= self.digits {
-            return Field::bad();
-        }
-        if FULL <= self.number {
-            return Field::bad();
-        }
-        let digits = self.digits + 1;
         let tens = self.number * 10;
-        let digit = byte - ZERO;
-        let units = digit as u32;
-        let number = tens + units;
         Field {
             stage,
-            letters: self.letters,
-            digits,
-            number,
+            digits: self.digits + 1,
+            number: tens + (byte - ZERO) as u32,
+            ..self
         }
     }
 
     // A letter more of the header's name.
+    #[tactic(auto, unfolding(crate::specs::Reading::letter_taken))]
     fn letter(self, stage: Stage, name: &[u8], byte: u8) -> Self
         ensures { result ≡ letter_taken stage name.now byte self }
     {
-        let letters = self.letters;
-        if 0 < self.digits {
-            return Field::bad();
-        }
-        if name.len() <= letters {
-            return Field::bad();
-        }
-        if name[letters] == byte {
-            let more = letters + 1;
-            Field {
+        if self.digits == 0 && name.get(self.letters).copied() == Some(byte) {
+            let letters = self.letters + 1;
+            return Field {
                 stage,
-                letters: more,
-                digits: self.digits,
-                number: self.number,
-            }
-        } else {
-            Field::bad()
+                letters,
+                ..self
+            };
         }
+        Field::bad()
     }
 
     // A byte more of what the field holds.
+    #[tactic(auto, unfolding(crate::specs::Reading::taken, model::specs::Limits::within))]
     fn take(self, stage: Stage, name: &[u8], byte: u8) -> Self
         ensures { result ≡ taken stage name.now byte self }
     {
-        if byte < ZERO {
-            return self.letter(stage, name, byte);
+        match byte {
+            ZERO..=NINE => self.digit(stage, byte),
+            _ => self.letter(stage, name, byte),
         }
-        if NINE < byte {
-            return self.letter(stage, name, byte);
-        }
-        self.digit(stage, byte)
     }
 
     // The field after one byte more.
+    #[tactic(auto, unfolding(crate::specs::Reading::field_after))]
     pub fn step(self, name: &[u8], byte: u8) -> Self
         ensures { result ≡ field_after name.now byte self }
     {
-        let stage = self.stage;
-        match stage {
-            Stage::Fresh => {
-                if byte == QUOTE {
-                    return self.at(Stage::Open);
-                }
-                self.take(Stage::Bare, name, byte)
-            }
-            Stage::Bare => self.take(Stage::Bare, name, byte),
-            Stage::Open => {
-                if byte == QUOTE {
-                    return self.at(Stage::Closed);
-                }
-                self.take(Stage::Open, name, byte)
-            }
-            Stage::Closed => Field::bad(),
-            Stage::Bad => Field::bad(),
+        match (self.stage, byte) {
+            (Stage::Fresh, QUOTE) => self.at(Stage::Open),
+            (Stage::Open, QUOTE) => self.at(Stage::Closed),
+            (Stage::Fresh | Stage::Bare, _) => self.take(Stage::Bare, name, byte),
+            (Stage::Open, _) => self.take(Stage::Open, name, byte),
+            (Stage::Closed | Stage::Bad, _) => Field::bad(),
         }
     }
 
     // What has been read so far, as a whole.
-    fn whole(self, name: &[u8]) -> Kind
+    #[tactic(auto, unfolding(crate::specs::Reading::whole_kind))]
+    fn whole(self, name: &[u8]) -> Option<Kind>
         ensures { result ≡ whole_kind name.now self }
     {
         if self.digits == 0 {
-            if name.len() <= self.letters {
-                return Kind::Name;
-            }
-            return Kind::Neither;
+            return (name.len() <= self.letters).then_some(Kind::Name);
         }
-        if self.letters == 0 {
-            return Kind::Number(self.number);
-        }
-        Kind::Neither
+        (self.letters == 0).then_some(Kind::Number(self.number))
     }
 
-    // What the field holds if it ends here.
-    pub fn kind(self, name: &[u8]) -> Kind
+    // What the field holds if it ends here; none where that is neither a name nor a number.
+    #[tactic(auto, unfolding(crate::specs::Reading::kind_at))]
+    pub fn kind(self, name: &[u8]) -> Option<Kind>
         ensures { result ≡ kind_at name.now self }
     {
-        let stage = self.stage;
-        match stage {
-            Stage::Fresh => self.whole(name),
-            Stage::Bare => self.whole(name),
-            Stage::Closed => self.whole(name),
-            Stage::Open => Kind::Neither,
-            Stage::Bad => Kind::Neither,
+        match self.stage {
+            Stage::Fresh | Stage::Bare | Stage::Closed => self.whole(name),
+            Stage::Open | Stage::Bad => None,
         }
     }
 
@@ -195,27 +147,13 @@ impl Field {
     pub fn is_fresh(self) -> bool
         ensures { result ≡ is_fresh self.stage }
     {
-        let stage = self.stage;
-        match stage {
-            Stage::Fresh => true,
-            Stage::Bare => false,
-            Stage::Open => false,
-            Stage::Closed => false,
-            Stage::Bad => false,
-        }
+        matches!(self.stage, Stage::Fresh)
     }
 
     // Whether the field can hold nothing any more, whatever follows.
     pub fn is_bad(self) -> bool
         ensures { result ≡ is_bad self.stage }
     {
-        let stage = self.stage;
-        match stage {
-            Stage::Fresh => false,
-            Stage::Bare => false,
-            Stage::Open => false,
-            Stage::Closed => false,
-            Stage::Bad => true,
-        }
+        matches!(self.stage, Stage::Bad)
     }
 }

@@ -1,21 +1,13 @@
 -- What is made of the reads. A piece is what one read handed over; the kit has no name for what stands on standard input, so the pieces are some list of
 -- lists.
-use Rattle.std.specs.Prelude.{ℕ, ◌-◌, ◌*◌, ◌^◌, ◌≤◌, ◌≡◌, Bool, true, false, cond, List, [], ◌∷◌, length, take, eqb}
+use Rattle.std.specs.Prelude.{ℕ, ◌-◌, ◌*◌, ◌^◌, ◌≤◌, ◌≡◌, Bool, true, false, cond, List, [], ◌∷◌, length, take, eqb, Result, Ok, Err}
 use Rattle.model.specs.Limits.{record_limits}
-use Rattle.rows.specs.declared.Rows.{Rows}
+use Rattle.rows.specs.declared.RowsError.{RowsError}
 use Rattle.rows.specs.Input.{columns_of}
-use Rattle.rows.specs.Reading.{State, state, start_parser, after_all, outcome_of}
+use Rattle.rows.specs.Reading.{state, start_parser, outcome_of}
 use Rattle.rows.specs.Whole.{text_of, fed, read_all, HeaderOfLetters, Tells}
-use Rattle.input.specs.declared.Piece.{Piece}
-use Rattle.input.specs.declared.Piece.TheVariants as piece
-use Rattle.input.specs.declared.Ended.{Ended}
-use Rattle.input.specs.declared.Ended.TheVariants as ended
-
--- one read: the parser was fed the bytes that the read left at the start of the lent list; where it failed nothing was fed
-abbrev pub ReadOnce : List ℕ → Piece → State → List ℕ → List ℕ → Type 0
-ReadOnce header (piece.Came parser n) before table bytes =
-    (n ≤ length bytes) × (state parser table ≡ after_all header (take n bytes) before)
-ReadOnce header piece.Failed before table bytes = table ≡ before.table
+use Rattle.input.specs.declared.InputError.{InputError}
+use Rattle.input.specs.declared.InputError.TheVariants.{Failed, TooLong}
 
 -- read to the end: the last read handed over nothing, and each before it something
 unfoldable pub to_end : List (List ℕ) → Bool
@@ -24,7 +16,7 @@ to_end (piece ∷ pieces) = cond (eqb (length piece) 0) (eqb (length pieces) 0) 
 
 -- what was read of the bytes that the reads handed over, however they were cut into pieces: under a header of letters, into a table of its size, it is
 -- what the definitions read in their text
-pub record ReadToEnd (header : List ℕ) (said : Rows) (table table' : List ℕ) : Type 0 where
+pub record ReadToEnd (header : List ℕ) (said : Result ℕ RowsError) (table table' : List ℕ) : Type 0 where
   pub pieces : List (List ℕ)
   pub whole : to_end pieces ≡ true
   pub says : said ≡ outcome_of (read_all header pieces table).parser
@@ -46,10 +38,10 @@ pub record StoppedLong (header table table' : List ℕ) : Type 0 where
   pub many : most_bytes ≤ length (text_of stopped.pieces)
 
 -- how reading ended
-abbrev pub EndedBy : List ℕ → Ended → List ℕ → List ℕ → Type 0
-EndedBy header (ended.Read said) table table' = ReadToEnd header said table table'
-EndedBy header ended.Failed table table' = Stopped header table table'
-EndedBy header ended.TooLong table table' = StoppedLong header table table'
+abbrev pub EndedBy : List ℕ → Result (Result ℕ RowsError) InputError → List ℕ → List ℕ → Type 0
+EndedBy header (Ok said) table table' = ReadToEnd header said table table'
+EndedBy header (Err Failed) table table' = Stopped header table table'
+EndedBy header (Err TooLong) table table' = StoppedLong header table table'
 
 -- the same of a program that answers its input. The first n bytes of the list are the output for the bytes that the reads handed over, however they were
 -- cut into pieces

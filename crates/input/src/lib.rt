@@ -2,10 +2,12 @@
 // long as a line's number can count, which no input is.
 #![tactic(auto)]
 
-ghost use Rattle.rows.specs.Reading.{state};
-ghost use Rattle.input.specs.Reads.{ReadOnce, EndedBy};
+ghost use Rattle.input.specs.declared.InputError.TheVariants.{Failed};
+ghost use Rattle.std.specs.Prelude.{◌≡◌};
+ghost use Rattle.input.specs.Reads.{EndedBy};
 
-use rows::{Parser, Rows};
+use rows::{Parser, RowsError};
+use std::io;
 use std::io::Read;
 
 // The bytes of a piece.
@@ -14,59 +16,42 @@ const PIECE: usize = 4_096;
 // The most bytes that are read.
 const BYTES: u64 = u64::MAX - 2;
 
-// A piece of the input: the parser after it and its length, 0 at the end, or that reading failed.
+// Why reading stopped before the end of the input: a read failed, or there was more input than can be counted.
 #[derive(Clone, Copy)]
-enum Piece {
-    Came(Parser, usize),
-    Failed,
-}
-
-// How reading ended: at the end of the input, with a read that failed, or with more input than can be counted.
-#[derive(Clone, Copy)]
-pub enum Ended {
-    Read(Rows),
+pub enum InputError {
     Failed,
     TooLong,
 }
 
-// Reads once and feeds what came.
-fn read_piece<R: Read>(
-    reader: &mut R,
-    parser: Parser,
-    header: &[u8],
-    table: &mut [u32],
-    bytes: &mut [u8],
-) -> Piece
-    ensures { ReadOnce header.now result (state parser table.old) table.new bytes.new }
-{
-    let Ok(n) = reader.read(bytes) else {
-        return Piece::Failed;
-    };
-    Piece::Came(parser.feed(header, table, &bytes[..n]), n)
+impl From<io::Error> for InputError {
+    ghost from_gives = { λ _ error. error ≡ Failed };
+
+    fn from(_error: io::Error) -> InputError {
+        InputError::Failed
+    }
 }
 
 // Reads the reader to its end, and leaves its rows in the table, column by column.
-pub fn read_rows<R: Read>(reader: &mut R, header: &[u8], table: &mut [u32]) -> Ended
+pub fn read_rows<R: Read>(
+    reader: &mut R,
+    header: &[u8],
+    table: &mut [u32],
+) -> Result<Result<usize, RowsError>, InputError>
     ensures { EndedBy header.now result table.old table.new }
 {
     let mut bytes = [0u8; PIECE];
     let mut parser = Parser::new(header);
     let mut left = BYTES;
+    // No `for`: how many bytes a turn takes is for the reader to say.
     while 0 < left {
-        let Piece::Came(next, n) = read_piece(reader, parser, header, table, &mut bytes) else {
-            return Ended::Failed;
-        };
+        let n = reader.read(&mut bytes)?;
         let ended = n == 0;
         if ended {
-            let last = next.end(header, table);
-            return Ended::Read(last.outcome());
+            let last = parser.end(header, table);
+            return Ok(last.outcome());
         }
-        parser = next;
-        left = if (n as u64) < left {
-            left - n as u64
-        } else {
-            0
-        };
+        parser = parser.feed(header, table, &bytes[..n]);
+        left = left.saturating_sub(n as u64);
     }
-    Ended::TooLong
+    Err(InputError::TooLong)
 }

@@ -1,20 +1,23 @@
 -- Writing goes on: what is left to write, written into the list as it is now, gives what the whole gives, written into the list as it was.
 use Prim.Native.Nat.{ℕ, zero, suc, ◌+◌, ◌-◌, ◌*◌, ◌/◌, ◌%◌, ◌≤◌, ◌<◌}
 use mathlib.Core.Path.{◌≡◌, refl, sym, ap, ap₂, ◌∙◌}
-use mathlib.Core.List.{List, [], ◌∷◌, ◌++◌, append-nil, append_assoc}
+use mathlib.Core.List.{List, [], ◌∷◌, ◌++◌, append_assoc}
 use native.Mathlib.Nat.{add-zero, add-suc, suc-add}
 use native.Mathlib.Numerals.{add-one}
 use native.Mathlib.Omega.{arith}
 use lib.ListN.{length, get_or, take, drop, set, length-append, length-drop, length-set, drop_of_length-le}
-use lib.Seq.{take_all, drop-cons, drop-set-lt, get_or-set_same, sets, length-sets}
+use lib.Seq.{sets-eq, take_all, drop-cons, drop-set-lt, get_or-set_same, sets, length-sets}
 use lib.Dec.{ltb}
 use borrow.Author.Tests.{lt-ltb, le-ltb}
+use borrow.Rule.Slice.PartMut.{put_mid}
+use Rattle.std.proofs.lemmas.Slice.{put_mid-paste}
 use Rattle.laws.proofs.Cases.{cond_cases}
 use Rattle.model.specs.Packets.{arrivals_from}
 use Rattle.model.specs.Record.{rows_of}
 use Rattle.output.specs.Output.{digits_from, decimal, line_with, row_lines}
 use Rattle.signs.specs.Signs.{cr, lf, comma}
-use Rattle.output.specs.Writing.{Wrote, SameLengths}
+use Rattle.output.specs.declared.write.RecordRows.{RecordRows}
+use Rattle.output.specs.Writing.{Wrote, SameLengthsIn, row_at}
 
 sets_append : (out : List ℕ) (at : ℕ) (first more : List ℕ) → sets out at (first ++ more) ≡ sets (sets out at first) (at + length first) more
 sets_append out at [] more = ap (λ (n : ℕ). sets out n more) (sym (add-zero at))
@@ -67,14 +70,18 @@ wrote_same {at} t o W = record { inside = omega (arith, W.inside, ap length t, a
 pub wrote_fits : (at : ℕ) (text out : List ℕ) (next : ℕ) (after : List ℕ) → Wrote at text out next after → next ≤ length after
 wrote_fits at text out next after W = omega (arith, W.inside, W.behind, ap length W.written, length-sets out at text)
 
--- the loop over the bytes
-pub put_start : (at : ℕ) (text out : List ℕ) → Left at text out (at + 0) (drop 0 text) out
-put_start at text out = rw (add-zero at) (left_all at text out)
-
-pub put_turn : (at : ℕ) (text out : List ℕ) (i : ℕ) → i < length text → (out' : List ℕ)
-    → Left at text out (at + i) (drop i text) out' → Left at text out (at + (i + 1)) (drop (i + 1) text) (set out' (at + i) (get_or text i 0))
-put_turn at text out i inside out' L =
-    left_byte at text out (at + i) out' (get_or text i 0) (drop (i + 1) text) (drop i text) (at + (i + 1)) (rw (add-one, drop-cons text i 0) refl) (omega arith) L
+-- bytes copied into a part of the list
+pub wrote_part : (at : ℕ) (text out part : List ℕ) → at + length text ≤ length out → part ≡ text
+    → Wrote at text out (at + length text) (put_mid at (at + length text - at) out part)
+wrote_part at text out part fits copied =
+    record {
+      inside = fits;
+      written =
+          put_mid-paste at (at + length text - at) out part text (length text) copied (omega arith) refl
+          ∙ ap (λ (l : List ℕ). take at out ++ l ++ drop (at + length text) out) (take_all (length text) text (omega arith))
+          ∙ sym (sets-eq text out at fits);
+      behind = refl;
+    }
 
 drop_set : (digits : List ℕ) (k b : ℕ) → k < length digits → drop k (set digits k b) ≡ b ∷ drop (suc k) digits
 drop_set digits k b inside =
@@ -84,9 +91,6 @@ drop_set digits k b inside =
 -- the loop over the digits, the last of them first: those that are left and those that stand in the list are the number's
 abbrev pub Digits : ℕ → List ℕ → ℕ → ℕ → Type 0
 Digits number digits left i = digits_from i left ++ drop i digits ≡ decimal number
-
-pub digits_none : (number : ℕ) (digits : List ℕ) → length digits ≡ 20 → Digits number digits number 20
-digits_none number digits long = rw (drop_of_length-le digits {i = 20} (omega arith)) (append-nil (decimal number))
 
 module _ (number : ℕ) (digits : List ℕ) (left i : ℕ) (long : length digits ≡ 20) (some : 0 < i) (inside : i ≤ 20) (D : Digits number digits left i) where
   digits_turn : (k : ℕ) → i ≡ suc k → digits_from (suc k) left ++ drop (suc k) digits ≡ decimal number
@@ -184,38 +188,35 @@ line_length (n ∷ m ∷ numbers) =
     rw (length-append (decimal n) (comma ∷ line_with (m ∷ numbers))) (omega (arith, decimal_length n, line_length (m ∷ numbers)))
 
 -- the loop over the packets: the rows that are left
-module _ (slots values fates whens bys : List ℕ) where
+module _ (r : RecordRows) where
   abbrev pub rows_left : ℕ → List ℕ
-  rows_left i = row_lines (rows_of (arrivals_from (i + 1) (drop i slots) (drop i values)) (drop i fates) (drop i whens) (drop i bys))
+  rows_left i = row_lines (rows_of (arrivals_from (i + 1) (drop i r.slots.now) (drop i r.values.now)) (drop i r.fates.now) (drop i r.whens.now) (drop i r.bys.now))
 
-  abbrev pub row_at : ℕ → List ℕ
-  row_at i = (i + 1) ∷ get_or slots i 0 ∷ get_or values i 0 ∷ get_or fates i 0 ∷ get_or whens i 0 ∷ get_or bys i 0 ∷ []
-
-  module _ (same : SameLengths slots values fates whens bys) where
-    rows_turn : (i : ℕ) → i < length slots → rows_left i ≡ line_with (row_at i) ++ rows_left (i + 1)
+  module _ (same : SameLengthsIn r) where
+    rows_turn : (i : ℕ) → i < length r.slots.now → rows_left i ≡ line_with (row_at r i) ++ rows_left (i + 1)
     unfolding row_lines rows_of arrivals_from
     rows_turn i more =
         rw (
           add-one (i + 1),
           add-one i,
-          drop-cons slots i 0 more,
-          drop-cons values i 0 (omega (arith, same.of_values)),
-          drop-cons fates i 0 (omega (arith, same.of_fates)),
-          drop-cons whens i 0 (omega (arith, same.of_whens)),
-          drop-cons bys i 0 (omega (arith, same.of_bys)),
+          drop-cons r.slots.now i 0 more,
+          drop-cons r.values.now i 0 (omega (arith, same.of_values)),
+          drop-cons r.fates.now i 0 (omega (arith, same.of_fates)),
+          drop-cons r.whens.now i 0 (omega (arith, same.of_whens)),
+          drop-cons r.bys.now i 0 (omega (arith, same.of_bys)),
         ) refl
 
-    pub rows_done : (i : ℕ) → length slots ≤ i → rows_left i ≡ []
+    pub rows_done : (i : ℕ) → length r.slots.now ≤ i → rows_left i ≡ []
     unfolding row_lines rows_of arrivals_from
-    rows_done i done = rw (drop_of_length-le slots done) refl
+    rows_done i done = rw (drop_of_length-le r.slots.now done) refl
 
-    module _ (at : ℕ) (out : List ℕ) (end : ℕ) (out' : List ℕ) (i : ℕ) (more : i < length slots) (L : Left at (rows_left 0) out end (rows_left i) out')
-        (next : ℕ) (out'' : List ℕ) (W : Wrote end (line_with (row_at i)) out' next out'') where
+    module _ (at : ℕ) (out : List ℕ) (end : ℕ) (out' : List ℕ) (i : ℕ) (more : i < length r.slots.now) (L : Left at (rows_left 0) out end (rows_left i) out')
+        (next : ℕ) (out'' : List ℕ) (W : Wrote end (line_with (row_at r i)) out' next out'') where
       pub rows_again : Left at (rows_left 0) out next (rows_left (i + 1)) out''
-      rows_again = left_wrote at (rows_left 0) out end out' (line_with (row_at i)) (rows_left (i + 1)) _ next out'' (rows_turn i more) L W
+      rows_again = left_wrote at (rows_left 0) out end out' (line_with (row_at r i)) (rows_left (i + 1)) _ next out'' (rows_turn i more) L W
 
       pub row_fits : next ≤ end + 128
-      row_fits = omega (arith, W.behind, line_length (row_at i))
+      row_fits = omega (arith, W.behind, line_length (row_at r i))
 
       pub row_long : length out'' ≡ length out'
-      row_long = ap length W.written ∙ length-sets out' end (line_with (row_at i))
+      row_long = ap length W.written ∙ length-sets out' end (line_with (row_at r i))

@@ -2,14 +2,14 @@
 // answers the place behind what it wrote. Where the list has fewer places than the longest text of its kind takes, it writes nothing and answers `at`.
 #![tactic(auto)]
 
-ghost use Rattle.model.specs.Record.{lists_of};
-ghost use Rattle.std.specs.Prelude.{◌+◌, ◌*◌, length};
+ghost use Rattle.std.specs.Prelude.{◌+◌, ◌*◌, ◌≤◌, ◌↔◌, IsTrue, length};
 ghost use Rattle.output.specs.Output.{decimal, line_with, refusal_text};
-ghost use Rattle.output.specs.Writing.{PutIn, rows_text};
+ghost use Rattle.output.specs.Writing.{PutIn, lists_in, rows_text};
 
 mod write;
 
 use model::Record;
+pub use write::RecordRows;
 use write::{write_bytes, write_line, write_number, write_rows};
 
 // The most bytes of a number, of one number of a line with what stands behind it, of a line's end, of a row, and of a refusal.
@@ -28,89 +28,63 @@ pub const OUTPUT: usize = 32 + ROW * Record::PACKETS;
 
 const REFUSAL: [u8; 15] = *b"refusal,place\r\n";
 
+// Whether the list has so many places from `at` on.
+fn has_places(out: &[u8], at: usize, need: usize) -> bool
+    ensures { IsTrue result ↔ (at + need ≤ length out.now) }
+{
+    need <= out.len() && at <= out.len() - need
+}
+
 // Writes some bytes.
 pub fn put(out: &mut [u8], at: usize, text: &[u8]) -> usize
     ensures { PutIn out result (length text.now) at text.now }
 {
-    if out.len() < at {
-        return at;
+    if has_places(out, at, text.len()) {
+        return write_bytes(out, at, text);
     }
-    if out.len() - at < text.len() {
-        return at;
-    }
-    write_bytes(out, at, text)
+    at
 }
 
 // Writes a number in decimal.
 pub fn put_number(out: &mut [u8], at: usize, number: u64) -> usize
     ensures { PutIn out result 20 at (decimal number) }
 {
-    if out.len() < at {
-        return at;
+    if has_places(out, at, NUMBER) {
+        return write_number(out, at, number);
     }
-    if out.len() - at < NUMBER {
-        return at;
-    }
-    write_number(out, at, number)
+    at
 }
 
 // Writes a line of numbers, with a comma between two.
 pub fn put_line(out: &mut [u8], at: usize, numbers: &[u64]) -> usize
     ensures { PutIn out result (21 * length numbers.now + 2) at (line_with numbers.now) }
 {
-    if out.len() < at {
-        return at;
+    let need = numbers.len().saturating_mul(PART).saturating_add(END);
+    if has_places(out, at, need) {
+        return write_line(out, at, numbers);
     }
-    let left = out.len() - at;
-    if left < END {
-        return at;
-    }
-    if (left - END) / PART < numbers.len() {
-        return at;
-    }
-    write_line(out, at, numbers)
+    at
 }
 
 // Writes a refusal, from the start of the list on.
 pub fn put_refusal(out: &mut [u8], number: u64, place: u64) -> usize
     ensures { PutIn out result 59 0 (refusal_text number place) }
 {
-    if out.len() < REFUSED {
-        return 0;
+    if has_places(out, 0, REFUSED) {
+        let at = write_bytes(out, 0, &REFUSAL);
+        return write_line(out, at, &[number, place]);
     }
-    let at = write_bytes(out, 0, &REFUSAL);
-    write_line(out, at, &[number, place])
+    0
 }
 
 // Writes a record's rows. Lists that differ in length are no record: then it writes nothing.
-pub fn put_rows(
-    out: &mut [u8],
-    at: usize,
-    slots: &[u32],
-    values: &[u32],
-    fates: &[u32],
-    whens: &[u32],
-    bys: &[u32],
-) -> usize
-    ensures { PutIn out result (128 * length slots.now) at (rows_text slots.now values.now (lists_of fates.now whens.now bys.now)) }
+#[tactic(auto, using(crate::proofs::Putting::put_nothing), unfolding(crate::specs::Writing::rows_text))]
+pub fn put_rows(out: &mut [u8], at: usize, rows: RecordRows) -> usize
+    ensures { let r = rows.entry in PutIn out result (128 * length r.slots.now) at (rows_text r.slots.now r.values.now (lists_in r)) }
 {
-    if values.len() != slots.len() {
-        return at;
+    let need = rows.slots.len().saturating_mul(ROW);
+    if rows.lengths_equal() && has_places(out, at, need) {
+        return write_rows(out, at, rows);
     }
-    if fates.len() != slots.len() {
-        return at;
-    }
-    if whens.len() != slots.len() {
-        return at;
-    }
-    if bys.len() != slots.len() {
-        return at;
-    }
-    if out.len() < at {
-        return at;
-    }
-    if (out.len() - at) / ROW < slots.len() {
-        return at;
-    }
-    write_rows(out, at, slots, values, fates, whens, bys)
+    at
 }

@@ -11,12 +11,14 @@ use lib.Seq.{drop-cons}
 use lib.Dec.{eqb, eqb-suc-suc}
 use borrow.Author.Tests.{ne_eqb}
 use Rattle.laws.proofs.Cases.{cond_cases}
+use Rattle.std.specs.List.{onto_first}
 use Rattle.model.specs.Limits.{within}
 use Rattle.signs.specs.Signs.{comma}
+use Rattle.std.specs.Prelude.{Option, None, Some}
 use Rattle.field.specs.declared.Kind.{Kind}
-use Rattle.field.specs.declared.Kind.TheVariants.{Neither, Name, Number}
+use Rattle.field.specs.declared.Kind.TheVariants.{Name, Number}
 use Rattle.field.specs.declared.Field.{Field}
-use Rattle.field.specs.Fields.{fields_of, starts_with, same, held_in, is_number, value_from, lettered}
+use Rattle.field.specs.Fields.{fields_of, same, held_in, is_number, value_from, lettered}
 use Rattle.field.specs.Reading.{fresh_field, bad_field, field_after, kind_at}
 use Rattle.field.proofs.Fielding.{SoundField, kind_after, field_from, Lettered, letters_of, field_law, kind_law, low_field, bad_from, fresh_from}
 use Rattle.field.proofs.Whole.{kind_whole}
@@ -36,19 +38,19 @@ with_number n bad = bad
 with_number n (got more) = got (n ∷ more)
 
 -- a field, in line 1 or not, and those that follow
-abbrev pub taking : Kind → Bool → Got → Got
-taking Neither first more = bad
-taking Name true more = more
-taking Name false more = bad
-taking (Number n) true more = bad
-taking (Number n) false more = with_number n more
+abbrev pub taking : Option Kind → Bool → Got → Got
+taking None first more = bad
+taking (Some Name) true more = more
+taking (Some Name) false more = bad
+taking (Some (Number n)) true more = bad
+taking (Some (Number n)) false more = with_number n more
 
-taking_bad : (k : Kind) (first : Bool) → taking k first bad ≡ bad
-taking_bad Neither first = refl
-taking_bad Name true = refl
-taking_bad Name false = refl
-taking_bad (Number n) true = refl
-taking_bad (Number n) false = refl
+taking_bad : (k : Option Kind) (first : Bool) → taking k first bad ≡ bad
+taking_bad None first = refl
+taking_bad (Some Name) true = refl
+taking_bad (Some Name) false = refl
+taking_bad (Some (Number n)) true = refl
+taking_bad (Some (Number n)) false = refl
 
 -- fields, each against the name in its place
 unfoldable pub fields_got : Bool → List (List ℕ) → List (List ℕ) → Got
@@ -107,7 +109,7 @@ bad_on : (first : Bool) (names fields : List (List ℕ)) → go_on first names b
 unfolding go_on
 bad_on first [] fields = refl
 bad_on first (name ∷ names) [] = refl
-bad_on first (name ∷ names) (field ∷ fields) = ap (λ (k : Kind). taking k first (fields_got first names fields)) (bad_from name field)
+bad_on first (name ∷ names) (field ∷ fields) = ap (λ (k : Option Kind). taking k first (fields_got first names fields)) (bad_from name field)
 
 -- a line that is bad stays so
 pub spoiled_line : (header : List ℕ) (p : Parser) (line : List ℕ) → line_from header (spoiled p) line ≡ bad
@@ -118,7 +120,7 @@ spoiled_line header p line = bad_on (is_first p) (drop p.column (names_in header
 fresh_on : (first : Bool) (name : List ℕ) (names fields : List (List ℕ)) → go_on first (name ∷ names) fresh_field fields ≡ fields_got first (name ∷ names) fields
 unfolding go_on fields_got
 fresh_on first name names [] = refl
-fresh_on first name names (field ∷ fields) = ap (λ (k : Kind). taking k first (fields_got first names fields)) (fresh_from name field)
+fresh_on first name names (field ∷ fields) = ap (λ (k : Option Kind). taking k first (fields_got first names fields)) (fresh_from name field)
 
 -- where no name is left no field may follow
 none_left : (first : Bool) (line : List ℕ) → fields_got first [] (fields_of line) ≡ bad
@@ -156,7 +158,7 @@ module _ (header : List ℕ) (letters : AllLetters (fields_of header)) (p : Pars
   unfolding go_on fields_of
   ended_line =
       from_here header p inside []
-      ∙ ap (λ (k : Kind). taking k (is_first p) (fields_got (is_first p) (names_behind header p) [])) (sym (kind_law (name_of header p) name_lettered p.field sound))
+      ∙ ap (λ (k : Option Kind). taking k (is_first p) (fields_got (is_first p) (names_behind header p) [])) (sym (kind_law (name_of header p) name_lettered p.field sound))
 
   -- the field is the last of its line, or not
   pub ended_last : suc p.column ≡ columns_of header → line_from header p [] ≡ taking (kind_at (name_of header p) p.field) (is_first p) (got [])
@@ -178,7 +180,7 @@ module _ (header : List ℕ) (letters : AllLetters (fields_of header)) (p : Pars
   unfolding go_on fields_of
   comma_line line =
       from_here header p inside (comma ∷ line)
-      ∙ ap (λ (k : Kind). taking k (is_first p) (fields_got (is_first p) (names_behind header p) (fields_of line)))
+      ∙ ap (λ (k : Option Kind). taking k (is_first p) (fields_got (is_first p) (names_behind header p) (fields_of line)))
       (sym (kind_law (name_of header p) name_lettered p.field sound))
 
   pub comma_last : suc p.column ≡ columns_of header → (line : List ℕ) → line_from header p (comma ∷ line) ≡ bad
@@ -205,8 +207,8 @@ module _ (header : List ℕ) (letters : AllLetters (fields_of header)) (p : Pars
       from_here header (in_field (field_after (name_of header p) b p.field) p) inside line
       ∙ fields_some line
       (λ (fields : List (List ℕ)). go_on (is_first p) (name_of header p ∷ names_behind header p) (field_after (name_of header p) b p.field) fields
-      ≡ go_on (is_first p) (name_of header p ∷ names_behind header p) p.field (starts_with b fields))
-      (λ field more. ap (λ (k : Kind). taking k (is_first p) (fields_got (is_first p) (names_behind header p) more)) (field_law (name_of header p) name_lettered p.field sound b field))
+      ≡ go_on (is_first p) (name_of header p ∷ names_behind header p) p.field (onto_first b fields))
+      (λ field more. ap (λ (k : Option Kind). taking k (is_first p) (fields_got (is_first p) (names_behind header p) more)) (field_law (name_of header p) name_lettered p.field sound b field))
       ∙ sym (from_here header p inside (b ∷ line) ∙ rw (ne_eqb b comma other) refl)
 
   -- a control character spoils a line
@@ -215,8 +217,8 @@ module _ (header : List ℕ) (letters : AllLetters (fields_of header)) (p : Pars
   low_line b line low =
       from_here header p inside (b ∷ line)
       ∙ rw (ne_eqb b comma (λ e. omega arith))
-      (fields_some line (λ (fields : List (List ℕ)). go_on (is_first p) (name_of header p ∷ names_behind header p) p.field (starts_with b fields) ≡ bad)
-      (λ field more. ap (λ (k : Kind). taking k (is_first p) (fields_got (is_first p) (names_behind header p) more)) (low_field (name_of header p) name_lettered p.field b field low)))
+      (fields_some line (λ (fields : List (List ℕ)). go_on (is_first p) (name_of header p ∷ names_behind header p) p.field (onto_first b fields) ≡ bad)
+      (λ field more. ap (λ (k : Option Kind). taking k (is_first p) (fields_got (is_first p) (names_behind header p) more)) (low_field (name_of header p) name_lettered p.field b field low)))
 
 -- before the first byte of a line all of it is left
 pub line_start : (header : List ℕ) (p : Parser) → p.column ≡ 0 → p.field ≡ fresh_field → 0 < columns_of header → (line : List ℕ)
@@ -229,7 +231,7 @@ line_start header p is fresh some line =
 
 -- the whole header line
 header_cases : (named number all : Bool) (n : ℕ) (more : Got) → more ≡ cond all (got []) bad
-    → taking (cond named Name (cond number (Number n) Neither)) true more ≡ cond (named && all) (got []) bad
+    → taking (cond named (Some Name) (cond number (Some (Number n)) None)) true more ≡ cond (named && all) (got []) bad
 header_cases true number all n more is = is
 header_cases false true all n more is = refl
 header_cases false false all n more is = refl
@@ -252,7 +254,7 @@ unfolding same is_number within
 row_kind [] more = rw (kind_whole [] []) refl
 row_kind (b ∷ held) more = rw (kind_whole [] (b ∷ held)) (go (is_number (b ∷ held)))
   where
-    go : (number : Bool) → taking (cond number (Number (value_from 0 (b ∷ held))) Neither) false more ≡ cond number (with_number (value_from 0 (b ∷ held)) more) bad
+    go : (number : Bool) → taking (cond number (Some (Number (value_from 0 (b ∷ held)))) None) false more ≡ cond number (with_number (value_from 0 (b ∷ held)) more) bad
     go true = refl
     go false = refl
 

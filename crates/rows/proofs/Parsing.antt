@@ -1,29 +1,14 @@
 -- What the parser's definitions say, case by case: the form in which the code goes by its cases.
 use Prim.Native.Nat.{ℕ, ◌+◌, ◌≤◌, ◌<◌}
-use mathlib.Core.Path.{◌≡◌, refl, ap, ap₂, sym, ◌∙◌}
+use mathlib.Core.Path.{◌≡◌, refl, ap, ap₂}
 use mathlib.Core.Bool.{Bool}
 use mathlib.Core.List.{List}
 use native.Mathlib.Numerals.{add-one}
 use lib.ListN.{length, get_or, drop, drop_of_length-le}
 use lib.Seq.{drop-cons}
-use Rattle.field.specs.declared.Kind.{Kind}
-use Rattle.field.specs.declared.Field.{Field}
-use Rattle.field.specs.Reading.{kind_at, field_after}
-use Rattle.rows.specs.declared.Parser.{Parser}
-use Rattle.rows.specs.Reading.{State, name_of, in_field, at_start, field_ended, field_ended_by, after, after_by, after_all, finished, finished_by}
+use Rattle.rows.specs.Reading.{State, at_start, after, after_by, after_all, finished, finished_by}
 
 module _ (header : List ℕ) where
-  pub field_ended_by_lem : (next : Parser) (st : State) {name : List ℕ} {r : Kind} (k : Kind) → name ≡ name_of header st.parser
-      → r ≡ kind_at name st.parser.field → r ≡ k → field_ended header next st ≡ field_ended_by k next st
-  unfolding field_ended
-  field_ended_by_lem next st k named read is =
-      ap (λ (kind : Kind). field_ended_by kind next st) (ap (λ (n : List ℕ). kind_at n st.parser.field) (sym named) ∙ sym read ∙ is)
-
-  pub field_stepped : (p q : Parser) (b : ℕ) {name : List ℕ} {f : Field} → name ≡ name_of header p → f ≡ field_after name b p.field
-      → q ≡ in_field f p → q ≡ in_field (field_after (name_of header p) b p.field) p
-  field_stepped p q b named stepped is =
-      is ∙ ap (λ (g : Field). in_field g p) (stepped ∙ ap (λ (n : List ℕ). field_after n b p.field) named)
-
   pub after_by_lem : (st : State) (t : Bool) → st.parser.after_cr ≡ t → (b : ℕ) → after header b st ≡ after_by t header b st
   unfolding after
   after_by_lem st t is b = ap (λ (u : Bool). after_by u header b st) is

@@ -8,15 +8,16 @@ use native.Mathlib.Omega.{arith}
 use lib.ListN.{length}
 use lib.Dec.{ltb, eqb}
 use borrow.Author.Tests.{ltb-true, ltb-false, ne_eqb}
+use Rattle.std.specs.List.{onto_first}
 use Rattle.model.specs.Limits.{record_limits}
 use Rattle.laws.proofs.Cases.{eqb_cases, cond_cases}
 use Rattle.signs.specs.Signs.{cr, lf, comma}
+use Rattle.std.specs.Prelude.{Option, None, Some}
 use Rattle.field.specs.declared.Kind.{Kind}
-use Rattle.field.specs.declared.Kind.TheVariants.{Neither, Name, Number}
+use Rattle.field.specs.declared.Kind.TheVariants.{Name, Number}
 use Rattle.field.specs.Fields.{fields_of}
 use Rattle.field.specs.Reading.{kind_at, is_bad}
 use Rattle.field.proofs.Fielding.{SoundField}
-use Rattle.rows.specs.Lines as lines
 use Rattle.rows.specs.Lines.{unless_empty, lines_of}
 use Rattle.rows.specs.Input.{Input, malformed, rows, with_row, columns_of, is_row, row_of, rows_from}
 use Rattle.rows.specs.Table.{written}
@@ -32,12 +33,12 @@ lines_some [] G some = some [] []
 lines_some (b ∷ []) G some = some (b ∷ []) []
 lines_some (b ∷ c ∷ text) G some = cond_cases G (eqb b cr && eqb c lf) _ _ (λ t. some [] _) (λ t. go (lines_of (c ∷ text)))
   where
-    go : (more : List (List ℕ)) → G (lines.in_first b more)
+    go : (more : List (List ℕ)) → G (onto_first b more)
     go [] = some (b ∷ []) []
     go (line ∷ more) = some (b ∷ line) more
 
 -- a byte that begins no line's end stands in the first line
-pub lines_more : (b : ℕ) (text : List ℕ) → eqb b cr ≡ false → lines_of (b ∷ text) ≡ lines.in_first b (lines_of text)
+pub lines_more : (b : ℕ) (text : List ℕ) → eqb b cr ≡ false → lines_of (b ∷ text) ≡ onto_first b (lines_of text)
 unfolding lines_of
 lines_more b [] other = refl
 lines_more b (c ∷ text) other = rw other refl
@@ -155,15 +156,15 @@ next_law header p table rest some from fits =
 
 -- what is left to do by what a field holds that ends
 module _ (st : State) (next : Parser) (G : State → Type 0) where
-  kind_cases : (k : Kind) → (((more : Got) → taking k (eqb st.parser.line 1) more ≡ bad) → G (spoiled_state st))
+  kind_cases : (k : Option Kind) → (((more : Got) → taking k (eqb st.parser.line 1) more ≡ bad) → G (spoiled_state st))
       → (st.parser.line ≡ 1 → ((more : Got) → taking k (eqb st.parser.line 1) more ≡ more) → G (in_state next st))
       → ((st.parser.line ≡ 1 → ⊥) → (n : ℕ) → ((more : Got) → taking k (eqb st.parser.line 1) more ≡ with_number n more)
       → G (state next (written st.parser.column st.parser.count n st.table)))
       → G (field_ended_by k next st)
-  kind_cases Neither none name number = none (λ more. refl)
-  kind_cases Name none name number =
+  kind_cases None none name number = none (λ more. refl)
+  kind_cases (Some Name) none name number =
       eqb_cases st.parser.line 1 _ (λ t is. rw t (name is (λ more. rw t refl))) (λ t other. rw t (none (λ more. rw t refl)))
-  kind_cases (Number n) none name number =
+  kind_cases (Some (Number n)) none name number =
       eqb_cases st.parser.line 1 _ (λ t is. rw t (none (λ more. rw t refl))) (λ t other. rw t (number other n (λ more. rw t refl)))
 
 -- the end of a line: it is bad, or the header, or a row

@@ -8,13 +8,13 @@ use native.Mathlib.Omega.{arith}
 use lib.ListN.{length}
 use lib.Dec.{ltb, eqb}
 use borrow.Author.Tests.{lt-ltb, ltb-true, ltb-false, eq-eqb, ne_eqb}
+use Rattle.std.specs.List.{onto_first}
 use Rattle.model.specs.Limits.{record_limits}
 use Rattle.laws.proofs.Cases.{eqb_cases, cond_cases}
 use Rattle.signs.specs.Signs.{cr, lf, comma}
 use Rattle.field.specs.Fields.{fields_of}
 use Rattle.field.specs.Reading.{field_after, is_fresh}
 use Rattle.field.proofs.Fielding.{field_begun}
-use Rattle.rows.specs.Lines as lines
 use Rattle.rows.specs.Lines.{lines_of}
 use Rattle.rows.specs.Input.{Input, malformed, rows, with_row, columns_of, rows_from}
 use Rattle.rows.specs.Table.{written}
@@ -107,12 +107,12 @@ module _ (header : List ℕ) (letters : AllLetters (fields_of header)) where
       go false = refl
 
   left_more : (st : State) → st.parser.after_cr ≡ false → (b : ℕ) (rest : List ℕ) → eqb b cr ≡ false
-      → left header st (b ∷ rest) ≡ lines_left header st (lines.in_first b (lines_of rest))
+      → left header st (b ∷ rest) ≡ lines_left header st (onto_first b (lines_of rest))
   left_more st is b rest other = left_some st is b rest ∙ ap (lines_left header st) (lines_more b rest other)
 
   -- a comma
   comma_law : (st : State) (n : ℕ) → Sound header st n → (rest : List ℕ)
-      → final_from header (column_ended header st) rest ≡ final_of (columns_of header) st (lines_left header st (lines.in_first comma (lines_of rest)))
+      → final_from header (column_ended header st) rest ≡ final_of (columns_of header) st (lines_left header st (onto_first comma (lines_of rest)))
   unfolding final_from at_start
   comma_law st n sound rest =
       let p = st.parser in
@@ -123,20 +123,20 @@ module _ (header : List ℕ) (letters : AllLetters (fields_of header)) where
       let left-next : (table : List ℕ) → left header (state q table) rest ≡ lines_left header (state q table) (lines_of rest) =
       λ table. left_by_lem header (state q table) false false refl (rw begun refl) rest in
       comma_cases header letters st n sound
-      (λ (s : State). final_from header s rest ≡ final_of columns st (lines_left header st (lines.in_first comma (lines_of rest))))
+      (λ (s : State). final_from header s rest ≡ final_of columns st (lines_left header st (onto_first comma (lines_of rest))))
       (λ l.
       spoiled_law header st rest
-      ∙ sym (lines_some rest (λ (more : List (List ℕ)). final_of columns st (lines_left header st (lines.in_first comma more)) ≡ stopped p.line) (λ line more. rw (l line) refl)))
+      ∙ sym (lines_some rest (λ (more : List (List ℕ)). final_of columns st (lines_left header st (onto_first comma more)) ≡ stopped p.line) (λ line more. rw (l line) refl)))
       (λ below e l.
       ap (final_of columns (in_state q st)) (left-next st.table)
       ∙ final_same columns st q refl (lines_left header (in_state q st) (lines_of rest))
       ∙ ap (final_of columns st)
-      (lines_some rest (λ (more : List (List ℕ)). lines_left header (in_state q st) more ≡ lines_left header st (lines.in_first comma more))
+      (lines_some rest (λ (more : List (List ℕ)). lines_left header (in_state q st) more ≡ lines_left header st (onto_first comma more))
       (λ line more. rw (l line) (onward_first p.line _ _ (line_from header q line) (rows_from columns (suc p.line) more) e))))
       (λ below e m l.
       let table = written p.column p.count m st.table in
       ap (final_of columns (state q table)) (left-next table)
-      ∙ lines_some rest (λ (more : List (List ℕ)). final_of columns (state q table) (lines_left header (state q table) more) ≡ final_of columns st (lines_left header st (lines.in_first comma more)))
+      ∙ lines_some rest (λ (more : List (List ℕ)). final_of columns (state q table) (lines_left header (state q table) more) ≡ final_of columns st (lines_left header st (onto_first comma more)))
       (λ line more. rw (l line) (number_law st m e inside sound.table (line_from header q line) (rows_from columns (suc p.line) more))))
     where
       number_law : (st : State) (m : ℕ) → (st.parser.line ≡ 1 → ⊥) → st.parser.column < columns_of header → length st.table ≡ columns_of header * record_limits.packets
@@ -160,7 +160,7 @@ module _ (header : List ℕ) (letters : AllLetters (fields_of header)) where
   -- a byte of a field
   field_moved : (st : State) (n : ℕ) → Sound header st n → (b : ℕ) (rest : List ℕ) → (b ≡ comma → ⊥)
       → final_from header (in_state (in_field (field_after (name_of header st.parser) b st.parser.field) st.parser) st) rest
-      ≡ final_of (columns_of header) st (lines_left header st (lines.in_first b (lines_of rest)))
+      ≡ final_of (columns_of header) st (lines_left header st (onto_first b (lines_of rest)))
   unfolding final_from at_start
   field_moved st n sound b rest other =
       let p = st.parser in
@@ -171,7 +171,7 @@ module _ (header : List ℕ) (letters : AllLetters (fields_of header)) where
       ap (final_of columns (in_state q st)) (left_by_lem header (in_state q st) false false refl (rw begun (and-false (eqb p.column 0))) rest)
       ∙ final_same columns st q refl (lines_left header (in_state q st) (lines_of rest))
       ∙ ap (final_of columns st)
-      (lines_some rest (λ (more : List (List ℕ)). lines_left header (in_state q st) more ≡ lines_left header st (lines.in_first b more))
+      (lines_some rest (λ (more : List (List ℕ)). lines_left header (in_state q st) more ≡ lines_left header st (onto_first b more))
       (λ line more. rw (line_law header letters p inside sound.field b line other) refl))
 
   byte_law : (st : State) (n : ℕ) → Sound header st n → st.parser.after_cr ≡ false → (b : ℕ) (rest : List ℕ)
@@ -192,7 +192,7 @@ module _ (header : List ℕ) (letters : AllLetters (fields_of header)) where
       (eqb_cases b comma _
       (λ u f. rw u
       (comma_law st n sound rest
-      ∙ ap (λ (c : ℕ). final_of columns st (lines_left header st (lines.in_first c (lines_of rest)))) (sym f)
+      ∙ ap (λ (c : ℕ). final_of columns st (lines_left header st (onto_first c (lines_of rest)))) (sym f)
       ∙ ap (final_of columns st) (sym (left_more st is b rest t))))
       (λ u f. rw u (field_moved st n sound b rest f ∙ ap (final_of columns st) (sym (left_more st is b rest t))))))
 
@@ -203,7 +203,7 @@ module _ (header : List ℕ) (letters : AllLetters (fields_of header)) where
   left_ends st is b rest t = left_by_lem header st true (at_start st.parser) is refl (b ∷ rest) ∙ rw t refl
 
   left_lone : (st : State) → st.parser.after_cr ≡ true → (b : ℕ) (rest : List ℕ) → eqb b lf ≡ false
-      → left header st (b ∷ rest) ≡ lines_left header st (lines.in_first cr (lines_of (b ∷ rest)))
+      → left header st (b ∷ rest) ≡ lines_left header st (onto_first cr (lines_of (b ∷ rest)))
   unfolding lines_of
   left_lone st is b rest t = left_by_lem header st true (at_start st.parser) is refl (b ∷ rest) ∙ rw t refl
 
@@ -219,7 +219,7 @@ module _ (header : List ℕ) (letters : AllLetters (fields_of header)) where
       (λ t e. rw t
       (spoiled_law header st rest
       ∙ sym (ap (final_of columns st) (left_lone st is b rest t)
-      ∙ lines_some (b ∷ rest) (λ (more : List (List ℕ)). final_of columns st (lines_left header st (lines.in_first cr more)) ≡ stopped p.line)
+      ∙ lines_some (b ∷ rest) (λ (more : List (List ℕ)). final_of columns st (lines_left header st (onto_first cr more)) ≡ stopped p.line)
       (λ line more. rw (low_line header letters p inside sound.field cr line (omega arith)) refl))))
 
   -- one byte goes from the rest of the input to what is read

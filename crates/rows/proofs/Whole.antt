@@ -12,8 +12,9 @@ use borrow.Author.Tests.{ltb-false, le-ltb}
 use Rattle.model.specs.Limits.{record_limits}
 use Rattle.field.specs.Fields.{fields_of}
 use Rattle.field.specs.Reading.{is_bad}
-use Rattle.rows.specs.declared.Rows.{Rows}
-use Rattle.rows.specs.declared.Rows.TheVariants.{Malformed, TooMany, Read}
+use Rattle.std.specs.Prelude.{Result, Ok, Err}
+use Rattle.rows.specs.declared.RowsError.{RowsError}
+use Rattle.rows.specs.declared.RowsError.TheVariants.{Malformed, TooMany}
 use Rattle.rows.specs.Input.{Input, malformed, rows, columns_of, column_of, input_of}
 use Rattle.rows.specs.Table.{column_in}
 use Rattle.rows.specs.Reading.{State, state, start_parser, after_all, finished, outcome_of}
@@ -39,20 +40,20 @@ module _ (header : List ℕ) (letters : AllLetters (fields_of header)) where
       sound_fed pieces (after_all header piece st) (read_law header letters piece (length (text_of pieces)) st (rw (length-append piece (text_of pieces)) at sound)).sound
 
 -- what reading comes to, as the parser says it
-abbrev told : Final → Rows
-told (stopped line) = Malformed line
-told many = TooMany
-told (read all) = Read (length all)
+abbrev told : Final → Result ℕ RowsError
+told (stopped line) = Err (Malformed line)
+told many = Err TooMany
+told (read all) = Ok (length all)
 
 told_state : (columns : ℕ) (st : State) → outcome_of st.parser ≡ told (said_in columns st)
 unfolding said_in outcome_of
 told_state columns st = go (is_bad st.parser.field.stage) (ltb 2048 st.parser.count)
   where
-    go : (t u : Bool) → cond t (Malformed st.parser.line) (cond u TooMany (Read st.parser.count))
+    go : (t u : Bool) → cond t (Err (Malformed st.parser.line)) (cond u (Err TooMany) (Ok st.parser.count))
         ≡ told (cond t (stopped st.parser.line) (cond u many (read (rows_to columns st.parser.count st.table))))
     go true u = refl
     go false true = refl
-    go false false = ap Read (sym (rows_length columns st.parser.count st.table))
+    go false false = ap Ok (sym (rows_length columns st.parser.count st.table))
 
 -- before the first byte no row has been read
 told_input : (header table : List ℕ) (input : Input) → told (final_of (columns_of header) (state (start_parser header) table) input) ≡ said_of input
@@ -60,7 +61,7 @@ unfolding rows_to
 told_input header table (malformed line) = refl
 told_input header table (rows all) = rw (zero-add (length all)) (go (ltb 2048 (length all)))
   where
-    go : (t : Bool) → told (cond t many (read all)) ≡ cond t TooMany (Read (length all))
+    go : (t : Bool) → told (cond t many (read all)) ≡ cond t (Err TooMany) (Ok (length all))
     go true = refl
     go false = refl
 

@@ -1,11 +1,7 @@
 -- Lines end at each CRLF, inside quotes too; the last line's end is optional.
 use Rattle.std.specs.Prelude.{ℕ, cond, ◌&&◌, List, [], ◌∷◌, eqb}
+use Rattle.std.specs.List.{onto_first}
 use Rattle.signs.specs.Signs.{cr, lf}
-
--- one byte more at the start of the first line
-abbrev pub in_first : ℕ → List (List ℕ) → List (List ℕ)
-in_first b [] = (b ∷ []) ∷ []
-in_first b (line ∷ lines) = (b ∷ line) ∷ lines
 
 -- the lines after a line's end: none where nothing follows
 abbrev pub unless_empty : List ℕ → List (List ℕ) → List (List ℕ)
@@ -17,4 +13,4 @@ unfoldable pub lines_of : List ℕ → List (List ℕ)
 lines_of [] = [] ∷ []
 lines_of (b ∷ []) = (b ∷ []) ∷ []
 lines_of (b ∷ c ∷ text) =
-    cond (eqb b cr && eqb c lf) ([] ∷ unless_empty text (lines_of text)) (in_first b (lines_of (c ∷ text)))
+    cond (eqb b cr && eqb c lf) ([] ∷ unless_empty text (lines_of text)) (onto_first b (lines_of (c ∷ text)))

@@ -1,16 +1,16 @@
 -- The parser: what each byte makes of it. In line 1 a field is read against its column's name, elsewhere against none; a bad line is kept, whatever
 -- follows.
-use Rattle.std.specs.Prelude.{ℕ, min, ◌+◌, ◌-◌, ◌^◌, Bool, true, false, cond, List, [], ◌∷◌, get_or, ltb, eqb}
+use Rattle.std.specs.Prelude.{ℕ, min, ◌+◌, ◌-◌, ◌^◌, Bool, true, false, cond, List, [], ◌∷◌, get_or, ltb, eqb, Option, None, Some, Result, Ok, Err}
 use Rattle.model.specs.Limits.{record_limits}
 use Rattle.signs.specs.Signs.{cr, lf, comma}
 use Rattle.field.specs.declared.Kind.{Kind}
-use Rattle.field.specs.declared.Kind.TheVariants.{Neither, Name, Number}
+use Rattle.field.specs.declared.Kind.TheVariants.{Name, Number}
 use Rattle.field.specs.declared.Field.{Field}
 use Rattle.field.specs.Fields.{fields_of}
 use Rattle.field.specs.Reading.{fresh_field, bad_field, field_after, kind_at, is_fresh, is_bad}
 use Rattle.rows.specs.declared.Parser.{Parser}
-use Rattle.rows.specs.declared.Rows.{Rows}
-use Rattle.rows.specs.declared.Rows.TheVariants.{Malformed, TooMany, Read}
+use Rattle.rows.specs.declared.RowsError.{RowsError}
+use Rattle.rows.specs.declared.RowsError.TheVariants.{Malformed, TooMany}
 use Rattle.rows.specs.Input.{columns_of}
 use Rattle.rows.specs.Table.{written}
 
@@ -21,8 +21,7 @@ start_parser header =
 
 -- the same field of the same line, further on
 abbrev pub in_field : Field → Parser → Parser
-in_field field p =
-    record { last = p.last; column = p.column; field = field; after_cr = false; line = p.line; count = p.count }
+in_field field p = record p { field = field; after_cr = false }
 
 -- in a line that is bad: it stays so
 abbrev pub spoiled : Parser → Parser
@@ -30,13 +29,11 @@ spoiled p = in_field bad_field p
 
 -- behind a CR, which may begin a line's end
 abbrev pub after_return : Parser → Parser
-after_return p =
-    record { last = p.last; column = p.column; field = p.field; after_cr = true; line = p.line; count = p.count }
+after_return p = record p { after_cr = true }
 
 -- at the start of the next field
 abbrev pub next_column : Parser → Parser
-next_column p =
-    record { last = p.last; column = p.column + 1; field = fresh_field; after_cr = false; line = p.line; count = p.count }
+next_column p = record p { column = p.column + 1; field = fresh_field; after_cr = false }
 
 -- the rows up to the end of this line: the header is none, and one more than there are places for is enough
 abbrev pub counted : Parser → ℕ
@@ -66,10 +63,10 @@ abbrev pub spoiled_state : State → State
 spoiled_state st = in_state (spoiled st.parser) st
 
 -- a field has ended: in line 1 it holds its column's name, elsewhere a number, which is written; the parser goes on as `next`
-abbrev pub field_ended_by : Kind → Parser → State → State
-field_ended_by Neither next st = spoiled_state st
-field_ended_by Name next st = cond (eqb st.parser.line 1) (in_state next st) (spoiled_state st)
-field_ended_by (Number n) next st =
+abbrev pub field_ended_by : Option Kind → Parser → State → State
+field_ended_by None next st = spoiled_state st
+field_ended_by (Some Name) next st = cond (eqb st.parser.line 1) (in_state next st) (spoiled_state st)
+field_ended_by (Some (Number n)) next st =
     cond (eqb st.parser.line 1) (spoiled_state st) (state next (written st.parser.column st.parser.count n st.table))
 
 unfoldable pub field_ended : List ℕ → Parser → State → State
@@ -117,6 +114,6 @@ unfoldable pub finished : List ℕ → State → State
 finished header st = finished_by st.parser.after_cr (at_start st.parser) header st
 
 -- what was read: the bad line, before all else; more rows than there are places for; or so many rows
-unfoldable pub outcome_of : Parser → Rows
+unfoldable pub outcome_of : Parser → Result ℕ RowsError
 outcome_of p =
-    cond (is_bad p.field.stage) (Malformed p.line) (cond (ltb record_limits.packets p.count) TooMany (Read p.count))
+    cond (is_bad p.field.stage) (Err (Malformed p.line)) (cond (ltb record_limits.packets p.count) (Err TooMany) (Ok p.count))

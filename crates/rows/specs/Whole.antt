@@ -1,9 +1,9 @@
 -- The parser as a whole: a text that comes in any pieces is read as the text, whatever was in the lent table before.
-use Rattle.std.specs.Prelude.{ℕ, ◌-◌, ◌*◌, ◌^◌, ◌≤◌, ◌<◌, ◌≡◌, Bool, true, cond, ◌&&◌, List, [], ◌∷◌, ◌++◌, length, ltb}
+use Rattle.std.specs.Prelude.{ℕ, ◌-◌, ◌*◌, ◌^◌, ◌≤◌, ◌<◌, ◌≡◌, Bool, true, cond, ◌&&◌, List, [], ◌∷◌, ◌++◌, length, ltb, Result, Ok, Err}
 use Rattle.model.specs.Limits.{record_limits}
 use Rattle.field.specs.Fields.{fields_of, lettered}
-use Rattle.rows.specs.declared.Rows.{Rows}
-use Rattle.rows.specs.declared.Rows.TheVariants.{Malformed, TooMany, Read}
+use Rattle.rows.specs.declared.RowsError.{RowsError}
+use Rattle.rows.specs.declared.RowsError.TheVariants.{Malformed, TooMany}
 use Rattle.rows.specs.Input.{Input, malformed, rows, input_of, columns_of, column_of}
 use Rattle.rows.specs.Table.{column_in}
 use Rattle.rows.specs.Reading.{State, state, start_parser, after_all, finished, outcome_of}
@@ -35,9 +35,9 @@ abbrev pub HeaderOfLetters : List ℕ → Type 0
 HeaderOfLetters header = all_lettered (fields_of header) ≡ true
 
 -- what is to be said of an input: the bad line, before all else
-abbrev pub said_of : Input → Rows
-said_of (malformed line) = Malformed line
-said_of (rows table) = cond (ltb record_limits.packets (length table)) TooMany (Read (length table))
+abbrev pub said_of : Input → Result ℕ RowsError
+said_of (malformed line) = Err (Malformed line)
+said_of (rows table) = cond (ltb record_limits.packets (length table)) (Err TooMany) (Ok (length table))
 
 -- the rows of an input stand in the table, column by column, unless there are too many
 abbrev pub Stands : ℕ → Input → List ℕ → Type 0
@@ -46,7 +46,7 @@ Stands columns (rows all) table =
     length all ≤ record_limits.packets → (j : ℕ) → j < columns → column_in j (length all) table ≡ column_of j all
 
 -- what was read, and the table, are those of the text
-pub record Tells (header text : List ℕ) (said : Rows) (table : List ℕ) : Type 0 where
+pub record Tells (header text : List ℕ) (said : Result ℕ RowsError) (table : List ℕ) : Type 0 where
   pub says : said ≡ said_of (input_of header text)
   pub stands : Stands (columns_of header) (input_of header text) table
 

@@ -3,22 +3,21 @@
 // `whole` says that what was read is what the definitions read in the text.
 #![tactic(auto)]
 
-ghost use Rattle.std.specs.Prelude.{◌≡◌, ◌+◌, [], length, get_or};
+ghost use Rattle.std.specs.Prelude.{◌≡◌, ◌+◌, ◌<◌, [], length, get_or};
 ghost use Rattle.field.specs.Fields.{fields_of};
 ghost use Rattle.rows.specs.Table.{written};
-ghost use Rattle.rows.specs.Reading.{start_parser, in_field, spoiled as spoiling, after_return, counted as counting, next_line, name_of, state, field_ended, column_ended, line_ended, in_line, after, after_all, at_start, finished, outcome_of};
+ghost use Rattle.rows.specs.Reading.{start_parser, in_field, spoiled as spoiling, after_return, counted as counting, next_column, next_line, name_of, state, field_ended, column_ended, line_ended, in_line, after, after_all, at_start, finished, outcome_of};
 
 use entry::put;
 use field::{Field, Kind};
 use model::Record;
 use signs::{COMMA, CR, LF};
 
-// What was read: the first bad line, more rows than there are places for, or so many rows.
+// Why a text gives no rows: its first bad line, or more rows than there are places for.
 #[derive(Clone, Copy)]
-pub enum Rows {
+pub enum RowsError {
     Malformed(u64),
     TooMany,
-    Read(usize),
 }
 
 // A text that has been read up to some byte: in which field of its present line, and whether its last byte is a CR that may begin a line's end; the number
@@ -34,52 +33,31 @@ pub struct Parser {
 }
 
 // The number of the header's last column: every comma parts two names.
+#[tactic(auto, using(crate::proofs::Naming::commas_counted), unfolding(field::specs::Fields::fields_of))]
 fn last_column(header: &[u8]) -> usize
     ensures { result + 1 ≡ length (fields_of header.now) }
 {
-    let mut commas: usize = 0;
-    let mut i = 0;
-    while i < header.len() {
-        if header[i] == COMMA {
-            commas += 1;
-        }
-        i += 1;
-    }
-    commas
+    header.iter().filter(|byte| **byte == COMMA).count()
 }
 
 // The name of a column; no byte where the header has no such column.
 fn name_at(header: &[u8], column: usize) -> &[u8]
     ensures { result.now ≡ get_or (fields_of header.now) column [] }
 {
-    let mut left = column;
-    let mut from = 0;
-    let mut i = 0;
-    while i < header.len() {
-        if header[i] == COMMA {
-            if left == 0 {
-                return &header[from..i];
-            }
-            left -= 1;
-            from = i + 1;
-        }
-        i += 1;
-    }
-    if left == 0 {
-        return &header[from..];
-    }
-    &header[..0]
+    header
+        .split(|byte| *byte == COMMA)
+        .nth(column)
+        .unwrap_or(&[])
 }
 
 // Writes a number into its row's place of its column.
+#[tactic(auto, unfolding(crate::specs::Table::written))]
 fn write(table: &mut [u32], column: usize, row: usize, number: u32)
     ensures { table.new ≡ written column row number table.old }
 {
     let placed = row < Record::PACKETS;
-    if placed {
-        if column < table.len() / Record::PACKETS {
-            put(table, column * Record::PACKETS + row, number);
-        }
+    if placed && column < table.len() / Record::PACKETS {
+        put(table, column * Record::PACKETS + row, number);
     }
 }
 
@@ -103,12 +81,9 @@ impl Parser {
         ensures { result ≡ in_field field self }
     {
         Parser {
-            last: self.last,
-            column: self.column,
             field,
             after_cr: false,
-            line: self.line,
-            count: self.count,
+            ..self
         }
     }
 
@@ -123,14 +98,20 @@ impl Parser {
     fn after_return(self) -> Self
         ensures { result ≡ after_return self }
     {
-        let field = self.field;
         Parser {
-            last: self.last,
-            column: self.column,
-            field,
             after_cr: true,
-            line: self.line,
-            count: self.count,
+            ..self
+        }
+    }
+
+    // At the start of the next field.
+    fn next_column(self) -> Self
+        requires { self.column < self.last }
+        ensures { result ≡ next_column self }
+    {
+        Parser {
+            column: self.column + 1,
+            ..self.in_field(Field::fresh())
         }
     }
 
@@ -141,25 +122,18 @@ impl Parser {
         if self.line == 1 {
             return self.count;
         }
-        if self.count < Record::PACKETS {
-            return self.count + 1;
-        }
-        Record::PACKETS + 1
+        self.count.saturating_add(1).min(Record::PACKETS + 1)
     }
 
     // At the start of the next line.
     fn next_line(self) -> Self
         ensures { result ≡ next_line self }
     {
-        let line = self.line;
-        let next = if line < u64::MAX { line + 1 } else { line };
         Parser {
-            last: self.last,
             column: 0,
-            field: Field::fresh(),
-            after_cr: false,
-            line: next,
+            line: self.line.saturating_add(1),
             count: self.counted(),
+            ..self.in_field(Field::fresh())
         }
     }
 
@@ -170,53 +144,38 @@ impl Parser {
         if self.line == 1 {
             return name_at(header, self.column);
         }
-        &header[..0]
+        &[]
     }
 
     // The end of a field: in line 1 it holds its column's name, elsewhere a number, which is written.
+    #[tactic(auto, unfolding(crate::specs::Reading::field_ended))]
     fn end_field(self, header: &[u8], table: &mut [u32], next: Parser) -> Self
         ensures { state result table.new ≡ field_ended header.now next (state self table.old) }
     {
-        let field = self.field;
-        let name = self.name(header);
-        match field.kind(name) {
-            Kind::Name => {
-                if self.line == 1 {
-                    return next;
-                }
-                self.spoiled()
-            }
-            Kind::Number(number) => {
-                if self.line == 1 {
-                    return self.spoiled();
-                }
+        let kind = self.field.kind(self.name(header));
+        match (kind, self.line == 1) {
+            (Some(Kind::Name), true) => next,
+            (Some(Kind::Number(number)), false) => {
                 write(table, self.column, self.count, number);
                 next
             }
-            Kind::Neither => self.spoiled(),
+            _ => self.spoiled(),
         }
     }
 
     // A comma: the field is not the last of its line.
+    #[tactic(auto, unfolding(crate::specs::Reading::column_ended))]
     fn end_column(self, header: &[u8], table: &mut [u32]) -> Self
         ensures { state result table.new ≡ column_ended header.now (state self table.old) }
     {
         if self.column < self.last {
-            let column = self.column + 1;
-            let next = Parser {
-                last: self.last,
-                column,
-                field: Field::fresh(),
-                after_cr: false,
-                line: self.line,
-                count: self.count,
-            };
-            return self.end_field(header, table, next);
+            return self.end_field(header, table, self.next_column());
         }
         self.spoiled()
     }
 
     // The end of a line: the field is the last.
+    #[tactic(auto, unfolding(crate::specs::Reading::line_ended))]
     fn end_line(self, header: &[u8], table: &mut [u32]) -> Self
         ensures { state result table.new ≡ line_ended header.now (state self table.old) }
     {
@@ -227,58 +186,51 @@ impl Parser {
     }
 
     // A byte of a line.
+    #[tactic(auto, unfolding(crate::specs::Reading::in_line))]
     fn in_line(self, header: &[u8], table: &mut [u32], byte: u8) -> Self
         ensures { state result table.new ≡ in_line header.now byte (state self table.old) }
     {
         if byte == COMMA {
             return self.end_column(header, table);
         }
-        let field = self.field;
-        let name = self.name(header);
-        self.in_field(field.step(name, byte))
+        self.in_field(self.field.step(self.name(header), byte))
     }
 
     // One byte more.
+    #[tactic(auto, unfolding(crate::specs::Reading::after))]
     fn step(self, header: &[u8], table: &mut [u32], byte: u8) -> Self
         ensures { state result table.new ≡ after header.now byte (state self table.old) }
     {
-        if self.after_cr {
-            if byte == LF {
-                return self.end_line(header, table);
-            }
-            return self.spoiled();
+        match (self.after_cr, byte) {
+            (true, LF) => self.end_line(header, table),
+            (true, _) => self.spoiled(),
+            (false, CR) => self.after_return(),
+            (false, _) => self.in_line(header, table, byte),
         }
-        if byte == CR {
-            return self.after_return();
-        }
-        self.in_line(header, table, byte)
     }
 
     // A piece of the text.
+    #[tactic(auto, using(crate::proofs::Parsing::fed_turn, crate::proofs::Parsing::fed_done))]
     pub fn feed(self, header: &[u8], table: &mut [u32], bytes: &[u8]) -> Self
         ensures { state result table.new ≡ after_all header.now bytes.now (state self table.old) }
     {
         let mut parser = self;
-        let mut i = 0;
-        while i < bytes.len() {
-            parser = parser.step(header, table, bytes[i]);
-            i += 1;
+        for byte in bytes {
+            parser = parser.step(header, table, *byte);
         }
         parser
     }
 
     // Whether no byte of this line has come.
+    #[tactic(auto, unfolding(crate::specs::Reading::at_start))]
     fn is_at_start(self) -> bool
         ensures { result ≡ at_start self }
     {
-        if self.column == 0 {
-            let field = self.field;
-            return field.is_fresh();
-        }
-        false
+        self.column == 0 && self.field.is_fresh()
     }
 
     // The end of the input: the last line's end is optional.
+    #[tactic(auto, unfolding(crate::specs::Reading::finished))]
     pub fn end(self, header: &[u8], table: &mut [u32]) -> Self
         ensures { state result table.new ≡ finished header.now (state self table.old) }
     {
@@ -286,26 +238,23 @@ impl Parser {
             return self.spoiled();
         }
         let nothing = self.is_at_start();
-        if nothing {
-            if self.line == 1 {
-                return self.end_line(header, table);
-            }
+        if nothing && self.line != 1 {
             return self;
         }
         self.end_line(header, table)
     }
 
-    // What was read, at the end of the input.
-    pub fn outcome(self) -> Rows
+    // How many rows were read, at the end of the input. A bad line comes before all else.
+    #[tactic(auto, unfolding(crate::specs::Reading::outcome_of))]
+    pub fn outcome(self) -> Result<usize, RowsError>
         ensures { result ≡ outcome_of self }
     {
-        let field = self.field;
-        if field.is_bad() {
-            return Rows::Malformed(self.line);
+        if self.field.is_bad() {
+            return Err(RowsError::Malformed(self.line));
         }
         if Record::PACKETS < self.count {
-            return Rows::TooMany;
+            return Err(RowsError::TooMany);
         }
-        Rows::Read(self.count)
+        Ok(self.count)
     }
 }

@@ -6,9 +6,5 @@ use Rattle.output.proofs.Writing.{Left}
 use Rattle.output.proofs.write.write_line.Given as goal
 
 abbrev pub invariant-loop-i : goal.invariant-loop-i
-invariant-loop-i l = (l.i ≤ length l.numbers)
-    × (l.end + 21 * (length l.numbers - l.i) + 2 ≤ length l.out)
+invariant-loop-i l = (l.end + 21 * (length l.numbers - l.i) + 2 ≤ length l.out)
     × Left l.at (line_with l.numbers) l.initial.out l.end (line_with (drop l.i l.numbers)) l.out
-
-abbrev pub decreases-loop-i : goal.decreases-loop-i
-decreases-loop-i l = length l.numbers - l.i
