@@ -1,6 +1,6 @@
 // A case, from its number to all that is said of it.
 use crate::bad::case_of;
-use crate::calls::{say_damages, say_runs};
+use crate::calls::say_calls;
 use crate::case::Lists;
 use crate::draw::Source;
 use crate::hand::say_hand;
@@ -17,8 +17,7 @@ pub fn say_case(sum: &mut Sum, number: u32) {
         mf_values: [0; ENTRIES],
     };
     let case = case_of(&mut source, number, &mut lists);
-    say_runs(sum, case, &lists);
-    say_damages(sum, &mut source, case, &lists);
+    say_calls(sum, &mut source, case, &lists);
     say_port(sum, case, &lists);
     say_hand(sum, &mut source, case);
 }

@@ -10,20 +10,19 @@ use runs::Policy;
 const DAMAGED: u32 = 3;
 
 // A call, and the audit of the record that it left.
-fn say_call(sum: &mut Sum, policy: Policy, case: Case, trace: Trace) {
-    let mut record = Record::new(case.lengths);
+fn say_call(sum: &mut Sum, policy: Policy, trace: Trace, record: &mut Record) {
     sum.say_reply(record.call(policy, trace));
     record.say(sum);
     sum.say_reply(record.audit(trace));
 }
 
 // The three policies and the offline plan.
-pub fn say_runs(sum: &mut Sum, case: Case, lists: &Lists) {
+fn say_runs(sum: &mut Sum, case: Case, lists: &Lists, record: &mut Record) {
     let trace = lists.trace(case);
-    say_call(sum, Policy::Greedy, case, trace);
-    say_call(sum, Policy::PG(case.beta), case, trace);
-    say_call(sum, Policy::MF(case.marking), case, lists.mf_trace(case));
-    say_call(sum, Policy::Plan, case, trace);
+    say_call(sum, Policy::Greedy, trace, record);
+    say_call(sum, Policy::PG(case.beta), trace, record);
+    say_call(sum, Policy::MF(case.marking), lists.mf_trace(case), record);
+    say_call(sum, Policy::Plan, trace, record);
 }
 
 // The room that a damaged record is audited with.
@@ -31,21 +30,23 @@ fn draw_audited(source: &mut Source, room: usize) -> usize {
     if source.draw(4) == 0 { 1 } else { room }
 }
 
-// The audit of PG's record, which PG writes anew, damaged.
-fn say_damaged(sum: &mut Sum, source: &mut Source, case: Case, trace: Trace) {
-    let mut record = Record::new(case.lengths);
+// The audit of PG's record, damaged.
+fn say_damaged(sum: &mut Sum, source: &mut Source, case: Case, lists: &Lists, record: &mut Record) {
+    let trace = lists.trace(case);
     record.call(Policy::PG(case.beta), trace);
-    damage_some(source, case.n, trace.slots, &mut record);
+    damage_some(source, case.n, trace.slots, record);
     let room = draw_audited(source, case.room);
     sum.say_reply(record.audit(Trace { room, ..trace }));
 }
 
-// The audits of damaged records, where a packet is there and the case's number mod 4 is not 3.
-pub fn say_damages(sum: &mut Sum, source: &mut Source, case: Case, lists: &Lists) {
+// All calls, and then the audits of damaged records, where a packet is there and the case's number mod 4 is not 3.
+pub fn say_calls(sum: &mut Sum, source: &mut Source, case: Case, lists: &Lists) {
+    let mut record = Record::new(case.lengths);
+    say_runs(sum, case, lists, &mut record);
     if case.n == 0 || case.number % 4 == 3 {
         return;
     }
     for _ in 0..DAMAGED {
-        say_damaged(sum, source, case, lists.trace(case));
+        say_damaged(sum, source, case, lists, &mut record);
     }
 }

@@ -160,10 +160,10 @@ pub fn say_hand(sum: &mut Sum, source: &mut Source, case: Case) {
     }
     let mut port = draw_port(source, case);
     spoil_some(source, &mut port);
-    port = arrive(sum, port, draw_value(source));
+    arrive(sum, &mut port, draw_value(source));
     sum.say_whole(&port);
-    port = end_slot(sum, port);
+    end_slot(sum, &mut port);
     sum.say_whole(&port);
-    port = arrive(sum, port, draw_value(source));
+    arrive(sum, &mut port, draw_value(source));
     sum.say_whole(&port);
 }

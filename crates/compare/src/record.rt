@@ -29,18 +29,21 @@ impl Record {
         }
     }
 
-    // A policy or the offline plan writes it.
+    // A policy or the offline plan writes it anew.
     pub fn call(&mut self, policy: Policy, trace: Trace) -> Reply {
+        let Trace {
+            slots,
+            values,
+            room,
+        } = trace;
         let lengths = self.lengths;
-        of_run(call(
-            policy,
-            trace.room,
-            trace.slots,
-            trace.values,
-            list_mut(&mut self.fates, lengths.fates),
-            list_mut(&mut self.whens, lengths.whens),
-            list_mut(&mut self.bys, lengths.bys),
-        ))
+        let fates = list_mut(&mut self.fates, lengths.fates);
+        let whens = list_mut(&mut self.whens, lengths.whens);
+        let bys = list_mut(&mut self.bys, lengths.bys);
+        fates.fill(BEFORE);
+        whens.fill(BEFORE);
+        bys.fill(BEFORE);
+        of_run(call(policy, room, slots, values, fates, whens, bys))
     }
 
     pub fn audit(&self, trace: Trace) -> Reply {
