@@ -1,5 +1,5 @@
-// Bad arguments, item 7 of the trace of a case, and with them the case as a whole. A kind is a number, which second/CASES.md gives it and `draw` draws: an
-// enum would only name each number once more, in a table from the one to the other.
+// Bad arguments, item 7 of the trace of a case, and with them the case as a whole.
+// A kind stays a number here: second/CASES.md gives it one, `draw` draws that, and one `match` reads it. An enum would add a table from one to the other.
 use crate::case::{Case, Lengths, Lists, draw_case};
 use crate::draw::Source;
 use crate::lists::put;

@@ -1,6 +1,4 @@
 // The trace of a case and its parameters, items 1 to 6 of second/CASES.md.
-ghost use Rattle.std.specs.Prelude.{◌≤◌};
-
 use crate::draw::Source;
 use crate::lists::{ENTRIES, list, list_mut};
 use model::{Beta, Marking};
@@ -151,7 +149,7 @@ fn draw_first(source: &mut Source) -> u32 {
     }
 }
 
-// What is added before a packet.
+// What is added before a packet. `gaps` stays the number that item 4 gives it: this `match` alone reads it.
 fn draw_gap(source: &mut Source, gaps: u32) -> u32 {
     match gaps {
         0 => 0,

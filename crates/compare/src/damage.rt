@@ -1,8 +1,9 @@
 // What damages a record before it is audited.
 use crate::draw::Source;
-use crate::lists::{get, put};
+use crate::lists::put;
 use crate::record::Record;
 
+// The number of the fate that the page names.
 const SENT: u32 = 1;
 
 // The when of every packet whose fate is sent is some slots more: a sender that idles.
@@ -21,10 +22,11 @@ fn exchange(list: &mut [u32], a: usize, b: usize) {
     }
 }
 
-// One damage of a record of n packets, by the number that second/CASES.md gives its kind.
+// One damage of a record of n packets. Its kind stays a number, as in bad.rt: the page numbers it, and one `match` reads it.
 fn damage(source: &mut Source, n: u32, slots: &[u32], record: &mut Record) {
     let j = source.draw(n) as usize;
-    let when = get(&record.whens, j);
+    let slot = slots.get(j).copied().unwrap_or(0);
+    let when = record.whens.get(j).copied().unwrap_or(0);
     match source.draw(9) {
         0 => put(&mut record.fates, j, source.draw(8)),
         1 => put(&mut record.bys, j, source.draw(n.saturating_add(3))),
@@ -33,7 +35,7 @@ fn damage(source: &mut Source, n: u32, slots: &[u32], record: &mut Record) {
         4 => put(&mut record.whens, j, u32::MAX),
         5 => {
             put(&mut record.fates, j, SENT);
-            put(&mut record.whens, j, get(slots, j));
+            put(&mut record.whens, j, slot);
             put(&mut record.bys, j, 0);
         }
         6 => put(&mut record.bys, j, u32::MAX),

@@ -1,10 +1,10 @@
-// A port made by hand, sound or not: item 8 of what is called. A kind is a number, as in bad.rt.
+// A port made by hand, sound or not: item 8 of what is called. A kind stays a number, as in bad.rt: the page numbers it, and one `match` reads it.
 ghost use Rattle.std.specs.Prelude.{◌≤◌};
 
 use crate::bad::spoil_beta;
 use crate::case::Case;
 use crate::draw::Source;
-use crate::lists::{get, put};
+use crate::lists::put;
 use crate::live::{arrive, end_slot};
 use crate::said::Sum;
 use model::PacketNumber;
@@ -75,19 +75,17 @@ fn spoil_used(source: &mut Source, u: u32, list: &mut [u32], to: u32) {
 }
 
 // Kinds 18 and 19: the numbers of two neighbours.
-fn spoil_order(source: &mut Source, kind: u32, u: u32, numbers: &mut [u32]) {
+fn spoil_order(source: &mut Source, kind: u32, port: &mut Port) {
+    let u = used(port);
     if u <= 1 {
         return;
     }
     let before = source.draw(u - 1) as usize;
     let j = before + 1;
-    if numbers.len() <= j {
-        return;
-    }
     if kind == 18 {
-        numbers[j] = numbers[before];
+        port.numbers[j] = port.numbers[before];
     } else {
-        numbers.swap(j, before);
+        port.numbers.swap(j, before);
     }
 }
 
@@ -124,7 +122,7 @@ fn spoil(source: &mut Source, port: &mut Port) {
         15 => spoil_used(source, u, &mut port.values, 65_536),
         16 => spoil_used(source, u, &mut port.values, 4_294_967_295),
         17 => spoil_used(source, u, &mut port.numbers, 0),
-        18 | 19 => spoil_order(source, kind, u, &mut port.numbers),
+        18 | 19 => spoil_order(source, kind, port),
         20 => {
             if 0 < u {
                 port.last = PacketNumber(port.numbers[u as usize - 1].saturating_sub(1));

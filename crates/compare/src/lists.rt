@@ -11,7 +11,7 @@ fn length_of(n: u32) -> usize
     (n as usize).min(ENTRIES)
 }
 
-// A list of n entries.
+// A list of n entries, to read and to write.
 pub fn list(entries: &[u32; ENTRIES], n: u32) -> &[u32] {
     &entries[..length_of(n)]
 }
@@ -20,14 +20,9 @@ pub fn list_mut(entries: &mut [u32; ENTRIES], n: u32) -> &mut [u32] {
     &mut entries[..length_of(n)]
 }
 
-// Writes the entry at a place, where there is one.
+// Writes the entry at a place, where there is one: the library's `get_mut`, for the places of bad.rt, damage.rt and hand.rt that write so.
 pub fn put(list: &mut [u32], place: usize, x: u32) {
     if let Some(entry) = list.get_mut(place) {
         *entry = x;
     }
-}
-
-// The entry at a place, 0 where there is none.
-pub fn get(list: &[u32], place: usize) -> u32 {
-    list.get(place).copied().unwrap_or(0)
 }

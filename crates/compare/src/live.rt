@@ -1,6 +1,5 @@
 // The calls of a live PG port, each said: the port that is handed back takes the place of the one before. And a port that is fed a case's packets.
 use crate::case::{Case, Lists, Trace};
-use crate::lists::get;
 use crate::said::Sum;
 use port::Port;
 use replies::{of_arrival, of_making, of_slot};
@@ -37,9 +36,9 @@ fn end_slots(sum: &mut Sum, port: &mut Port, times: u32) {
 fn feed(sum: &mut Sum, port: &mut Port, n: u32, trace: Trace) {
     let mut now = 1;
     for i in 0..n as usize {
-        let slot = get(trace.slots, i);
+        let slot = trace.slots.get(i).copied().unwrap_or(0);
         end_slots(sum, port, slot.saturating_sub(now).min(ENDS));
-        arrive(sum, port, get(trace.values, i));
+        arrive(sum, port, trace.values.get(i).copied().unwrap_or(0));
         now = slot;
     }
     let held = u32::try_from(port.held).unwrap_or(u32::MAX);
