@@ -1,234 +1,198 @@
 // Bad arguments, item 7 of the trace of a case, and with them the case as a whole.
-use crate::case::{Case, draw_case};
-use crate::draw::{draw, draw_from_one};
-use crate::lists::{fill, get, less, more, put};
+// A kind stays a number here: second/CASES.md gives it one, `draw` draws that, and one `match` reads it. An enum would add a table from one to the other.
+use crate::case::{Case, Lengths, Lists, draw_case};
+use crate::draw::Source;
+use crate::lists::put;
+use model::{Beta, Marking};
 
 // The packets of a trace that has one too many.
 const TOO_MANY: u32 = 2_049;
 
-// How often the arguments of case number c are spoilt: where c mod 4 is not 3, never.
-fn draw_times(source: &mut u64, c: u32) -> u32 {
-    if c % 4 != 3 {
+// How often the arguments of a case are spoilt: where its number mod 4 is not 3, never.
+fn draw_times(source: &mut Source, number: u32) -> u32 {
+    if number % 4 != 3 {
         return 0;
     }
-    if c % 64 == 63 {
-        return draw(source, 2);
+    if number % 64 == 63 {
+        return source.draw(2);
     }
-    draw_from_one(source, 3)
+    source.draw_from_one(3)
 }
 
-// Makes the trace that long, where c mod 64 = 63.
-fn lengthen(
-    c: u32,
-    mut case: Case,
-    slots: &mut [u32],
-    values: &mut [u32],
-    mf_values: &mut [u32],
-) -> Case {
-    if c % 64 != 63 {
+// Makes the trace that long, where the case's number mod 64 is 63.
+fn lengthen(case: Case, lists: &mut Lists) -> Case {
+    if case.number % 64 != 63 {
         return case;
     }
-    let lo = case.lo;
-    fill(slots, 1);
-    fill(values, 1);
-    fill(mf_values, lo);
-    case.n = TOO_MANY;
-    case.slots = TOO_MANY;
-    case.values = TOO_MANY;
-    case.fates = TOO_MANY;
-    case.whens = TOO_MANY;
-    case.bys = TOO_MANY;
-    case
+    lists.slots.fill(1);
+    lists.values.fill(1);
+    lists.mf_values.fill(case.marking.lo);
+    Case {
+        n: TOO_MANY,
+        lengths: Lengths::all(TOO_MANY),
+        ..case
+    }
 }
 
-// Kinds 3 to 7: the length of a list.
-fn spoil_length(source: &mut u64, kind: u32, mut case: Case) -> Case {
-    let n = case.n;
-    let length = if draw(source, 2) == 0 {
-        more(n, 1)
+// Kinds 3 to 7: the length of a list, of which 3 and 4 set the entry past the n-th.
+fn spoil_length(source: &mut Source, kind: u32, case: Case, lists: &mut Lists) -> Lengths {
+    let past = case.n as usize;
+    let lengths = case.lengths;
+    let length = if source.draw(2) == 0 {
+        case.n.saturating_add(1)
     } else {
-        less(n, 1)
+        case.n.saturating_sub(1)
     };
     match kind {
-        3 => case.slots = length,
-        4 => case.values = length,
-        5 => case.fates = length,
-        6 => case.whens = length,
-        _ => case.bys = length,
+        3 => {
+            put(&mut lists.slots, past, 1_000_000);
+            Lengths {
+                slots: length,
+                ..lengths
+            }
+        }
+        4 => {
+            put(&mut lists.values, past, 1);
+            put(&mut lists.mf_values, past, 1);
+            Lengths {
+                values: length,
+                ..lengths
+            }
+        }
+        5 => Lengths {
+            fates: length,
+            ..lengths
+        },
+        6 => Lengths {
+            whens: length,
+            ..lengths
+        },
+        _ => Lengths {
+            bys: length,
+            ..lengths
+        },
     }
-    case
 }
 
-// Kind 13.
-fn exchange_beta(mut case: Case) -> Case {
-    let num = case.num;
-    case.num = case.den;
-    case.den = num;
-    case
-}
-
-// Kind 12.
-fn beta_above(mut case: Case) -> Case {
-    case.num = 65_537;
-    case.den = 65_536;
-    case
-}
-
-// Kinds 0 to 2, 8 to 11 and 15.
-fn spoil_number(kind: u32, mut case: Case) -> Case {
+// Kinds 8 to 13, of a case and of a port made by hand.
+pub fn spoil_beta(kind: u32, beta: Beta) -> Beta {
+    let Beta { num, den } = beta;
     match kind {
-        0 => case.room = 0,
-        1 => case.room = 257,
-        2 => case.room = 4_294_967_295,
-        8 => case.num = 0,
-        9 => case.den = 0,
-        10 => case.num = case.den,
-        11 => case.num = 65_536,
-        15 => case.r = 256,
-        _ => {}
+        8 => Beta { num: 0, den },
+        9 => Beta { num, den: 0 },
+        10 => Beta { num: den, den },
+        11 => Beta { num: 65_536, den },
+        12 => Beta {
+            num: 65_537,
+            den: 65_536,
+        },
+        _ => Beta { num: den, den: num },
     }
-    case
 }
 
 // Kind 14.
-fn spoil_marks(source: &mut u64, mut case: Case) -> Case {
-    let lo = case.lo;
-    match draw(source, 4) {
-        0 => case.lo = case.hi,
-        1 => case.lo = 0,
-        2 => case.hi = 65_536,
-        _ => {
-            case.lo = case.hi;
-            case.hi = lo;
-        }
+fn spoil_marking(source: &mut Source, marking: Marking) -> Marking {
+    let Marking { lo, hi, r } = marking;
+    match source.draw(4) {
+        0 => Marking { lo: hi, hi, r },
+        1 => Marking { lo: 0, hi, r },
+        2 => Marking { lo, hi: 65_536, r },
+        _ => Marking { lo: hi, hi: lo, r },
     }
-    case
 }
 
 // Kind 16: the slot that a packet's own becomes.
-fn wrong_slot(source: &mut u64, slot: u32) -> u32 {
-    match draw(source, 3) {
+fn wrong_slot(source: &mut Source, slot: u32) -> u32 {
+    match source.draw(3) {
         0 => 0,
         1 => 1_000_001,
-        _ => less(slot, 1),
+        _ => slot.saturating_sub(1),
     }
+}
+
+// Kind 17.
+fn wrong_value(source: &mut Source) -> u32 {
+    if source.draw(2) == 0 { 0 } else { 65_536 }
 }
 
 // Kinds 18 and 19: a value that is mostly in range and neither lo nor hi.
-fn wrong_mark(source: &mut u64, case: Case) -> u32 {
-    match draw(source, 4) {
-        0 => more(case.hi, 1),
+fn wrong_mark(source: &mut Source, marking: Marking) -> u32 {
+    match source.draw(4) {
+        0 => marking.hi.saturating_add(1),
         1 => 65_535,
-        2 => more(case.lo, 1),
-        _ => less(case.lo, 1),
+        2 => marking.lo.saturating_add(1),
+        _ => marking.lo.saturating_sub(1),
     }
 }
 
-// What a kind does to the numbers of a case; kinds 16 to 19 do nothing to them.
-fn spoil_numbers(source: &mut u64, kind: u32, case: Case) -> Case {
-    match kind {
-        3..=7 => spoil_length(source, kind, case),
-        12 => beta_above(case),
-        13 => exchange_beta(case),
-        14 => spoil_marks(source, case),
-        _ => spoil_number(kind, case),
-    }
-}
-
-// The place that a kind writes to: past the n-th, or one of n.
-fn draw_place(source: &mut u64, kind: u32, n: u32) -> u32 {
-    if kind < 16 { n } else { draw(source, n) }
-}
-
-// What a kind writes to a list, at a place with this slot: kinds 3, 4 and 16 to 19.
-fn draw_entry(source: &mut u64, kind: u32, case: Case, slot: u32) -> u32 {
-    match kind {
-        3 => 1_000_000,
-        4 => 1,
-        16 => wrong_slot(source, slot),
-        17 => { if draw(source, 2) == 0 { 0 } else { 65_536 } }
-        18 | 19 => wrong_mark(source, case),
-        _ => 0,
-    }
-}
-
-// Writes an entry, by its kind: a slot, a value with MF's, or MF's alone.
-fn put_entry(
-    kind: u32,
-    place: usize,
-    x: u32,
-    slots: &mut [u32],
-    values: &mut [u32],
-    mf_values: &mut [u32],
-) {
-    match kind {
-        3 | 16 => put(slots, place, x),
-        4 | 17 => {
-            put(values, place, x);
-            put(mf_values, place, x);
-        }
-        18 | 19 => put(mf_values, place, x),
-        _ => {}
-    }
-}
-
-// What a kind does to the lists: where no packet is there kinds 16 to 19 do nothing.
-fn spoil_lists(
-    source: &mut u64,
-    kind: u32,
-    case: Case,
-    slots: &mut [u32],
-    values: &mut [u32],
-    mf_values: &mut [u32],
-) {
-    if case.n == 0 && 16 <= kind {
+// Kinds 16 to 19: an entry of a list, where a packet is there.
+fn spoil_entry(source: &mut Source, kind: u32, case: Case, lists: &mut Lists) {
+    if case.n == 0 {
         return;
     }
-    let place = draw_place(source, kind, case.n) as usize;
-    let x = draw_entry(source, kind, case, get(slots, place));
-    put_entry(kind, place, x, slots, values, mf_values);
+    let place = source.draw(case.n) as usize;
+    match kind {
+        16 => {
+            if let Some(slot) = lists.slots.get_mut(place) {
+                *slot = wrong_slot(source, *slot);
+            }
+        }
+        17 => {
+            let value = wrong_value(source);
+            put(&mut lists.values, place, value);
+            put(&mut lists.mf_values, place, value);
+        }
+        _ => put(
+            &mut lists.mf_values,
+            place,
+            wrong_mark(source, case.marking),
+        ),
+    }
 }
 
 // Spoils a case once.
-fn spoil(
-    source: &mut u64,
-    case: Case,
-    slots: &mut [u32],
-    values: &mut [u32],
-    mf_values: &mut [u32],
-) -> Case {
-    let kind = draw(source, 20);
-    spoil_lists(source, kind, case, slots, values, mf_values);
-    spoil_numbers(source, kind, case)
-}
-
-// Makes the arguments of case number c bad, where c mod 4 = 3: spoils them some times, one after another.
-fn spoil_case(
-    source: &mut u64,
-    c: u32,
-    case: Case,
-    slots: &mut [u32],
-    values: &mut [u32],
-    mf_values: &mut [u32],
-) -> Case {
-    let times = draw_times(source, c);
-    let mut left = lengthen(c, case, slots, values, mf_values);
-    let mut i = 0;
-    while i < times {
-        left = spoil(source, left, slots, values, mf_values);
-        i += 1;
+fn spoil(source: &mut Source, case: Case, lists: &mut Lists) -> Case {
+    let kind = source.draw(20);
+    match kind {
+        0 => Case { room: 0, ..case },
+        1 => Case { room: 257, ..case },
+        2 => Case {
+            room: 4_294_967_295,
+            ..case
+        },
+        3..=7 => Case {
+            lengths: spoil_length(source, kind, case, lists),
+            ..case
+        },
+        8..=13 => Case {
+            beta: spoil_beta(kind, case.beta),
+            ..case
+        },
+        14 => Case {
+            marking: spoil_marking(source, case.marking),
+            ..case
+        },
+        15 => Case {
+            marking: Marking {
+                r: 256,
+                ..case.marking
+            },
+            ..case
+        },
+        _ => {
+            spoil_entry(source, kind, case, lists);
+            case
+        }
     }
-    left
 }
 
-// Draws case number c, bad arguments with it: its lists are written into those lent.
-pub fn case_of(
-    source: &mut u64,
-    c: u32,
-    slots: &mut [u32],
-    values: &mut [u32],
-    mf_values: &mut [u32],
-) -> Case {
-    let drawn = draw_case(source, slots, values, mf_values);
-    spoil_case(source, c, drawn, slots, values, mf_values)
+// Draws a case by its number, bad arguments with it, where that mod 4 is 3: spoils them some times, one after another.
+pub fn case_of(source: &mut Source, number: u32, lists: &mut Lists) -> Case {
+    let drawn = draw_case(source, number, lists);
+    let times = draw_times(source, number);
+    let mut case = lengthen(drawn, lists);
+    for _ in 0..times {
+        case = spoil(source, case, lists);
+    }
+    case
 }

@@ -1,116 +1,52 @@
-// The calls on a trace, and what is said of each: a policy or the offline plan, with the audit of its record, and the audits of damaged records.
-use crate::case::{Case, ENTRIES, length_of};
+// The calls on a trace, and what is said of each: the policies and the offline plan, with the audit of each record, and the audits of damaged records.
+use crate::case::{Case, Lists, Trace};
 use crate::damage::damage_some;
-use crate::draw::draw;
-use crate::said::{say_audit, say_record, say_run};
-use audit::audit;
-use runs::{Policy, call};
-
-// What the record's lists hold before a call.
-const BEFORE: u32 = 7;
+use crate::draw::Source;
+use crate::record::Record;
+use crate::said::Sum;
+use runs::Policy;
 
 // How many damaged records of a case are audited.
 const DAMAGED: u32 = 3;
 
-// A call on a record, and the audit of what it left.
-fn say_call_on(
-    sum: &mut u64,
-    policy: Policy,
-    case: Case,
-    slots: &[u32],
-    values: &[u32],
-    fates: &mut [u32],
-    whens: &mut [u32],
-    bys: &mut [u32],
-) {
-    let answer = call(policy, case.room, slots, values, fates, whens, bys);
-    say_run(sum, answer);
-    say_record(sum, fates, whens, bys);
-    say_audit(sum, audit(slots, values, case.room, fates, whens, bys));
+// A call, and the audit of the record that it left.
+fn say_call(sum: &mut Sum, policy: Policy, trace: Trace, record: &mut Record) {
+    sum.say_reply(record.call(policy, trace));
+    record.say(sum);
+    sum.say_reply(record.audit(trace));
 }
 
-// A call on a record of the case's lengths.
-pub fn say_call(sum: &mut u64, policy: Policy, case: Case, slots: &[u32], values: &[u32]) {
-    let f = length_of(case.fates);
-    let w = length_of(case.whens);
-    let b = length_of(case.bys);
-    let mut fates = [BEFORE; ENTRIES as usize];
-    let mut whens = [BEFORE; ENTRIES as usize];
-    let mut bys = [BEFORE; ENTRIES as usize];
-    say_call_on(
-        sum,
-        policy,
-        case,
-        slots,
-        values,
-        &mut fates[..f],
-        &mut whens[..w],
-        &mut bys[..b],
-    );
+// The three policies and the offline plan.
+fn say_runs(sum: &mut Sum, case: Case, lists: &Lists, record: &mut Record) {
+    let trace = lists.trace(case);
+    say_call(sum, Policy::Greedy, trace, record);
+    say_call(sum, Policy::PG(case.beta), trace, record);
+    say_call(sum, Policy::MF(case.marking), lists.mf_trace(case), record);
+    say_call(sum, Policy::Plan, trace, record);
 }
 
 // The room that a damaged record is audited with.
-fn draw_audited(source: &mut u64, room: usize) -> usize {
-    if draw(source, 4) == 0 { 1 } else { room }
+fn draw_audited(source: &mut Source, room: usize) -> usize {
+    if source.draw(4) == 0 { 1 } else { room }
 }
 
 // The audit of PG's record, damaged.
-fn say_damaged_on(
-    sum: &mut u64,
-    source: &mut u64,
-    case: Case,
-    slots: &[u32],
-    values: &[u32],
-    fates: &mut [u32],
-    whens: &mut [u32],
-    bys: &mut [u32],
-) {
-    let room = case.room;
-    let pg = Policy::PG(case.beta());
-    call(pg, room, slots, values, fates, whens, bys);
-    damage_some(source, case.n, slots, fates, whens, bys);
-    let audited = draw_audited(source, room);
-    say_audit(sum, audit(slots, values, audited, fates, whens, bys));
+fn say_damaged(sum: &mut Sum, source: &mut Source, case: Case, lists: &Lists, record: &mut Record) {
+    let trace = lists.trace(case);
+    record.call(Policy::PG(case.beta), trace);
+    damage_some(source, case.n, trace.slots, record);
+    let room = draw_audited(source, case.room);
+    sum.say_reply(record.audit(Trace { room, ..trace }));
 }
 
-// The audit of a damaged record of the case's lengths, which PG writes anew.
-fn say_damaged(sum: &mut u64, source: &mut u64, case: Case, slots: &[u32], values: &[u32]) {
-    let f = length_of(case.fates);
-    let w = length_of(case.whens);
-    let b = length_of(case.bys);
-    let mut fates = [BEFORE; ENTRIES as usize];
-    let mut whens = [BEFORE; ENTRIES as usize];
-    let mut bys = [BEFORE; ENTRIES as usize];
-    say_damaged_on(
-        sum,
-        source,
-        case,
-        slots,
-        values,
-        &mut fates[..f],
-        &mut whens[..w],
-        &mut bys[..b],
-    );
-}
-
-// The audits of damaged records, where a packet is there and c mod 4 is not 3.
-pub fn say_damages(
-    sum: &mut u64,
-    source: &mut u64,
-    c: u32,
-    case: Case,
-    slots: &[u32],
-    values: &[u32],
-) {
-    if case.n == 0 {
+// All calls, and then the audits of damaged records, where a packet is there and the case's number mod 4 is not 3.
+pub fn say_calls(sum: &mut Sum, source: &mut Source, case: Case, lists: &Lists) {
+    let mut record = Record::new(case.lengths);
+    say_runs(sum, case, lists, &mut record);
+    if case.n == 0 || case.number % 4 == 3 {
         return;
     }
-    if c % 4 == 3 {
-        return;
-    }
-    let mut i = 0;
-    while i < DAMAGED {
-        say_damaged(sum, source, case, slots, values);
-        i += 1;
+    for _ in 0..DAMAGED {
+        say_damaged(sum, source, case, lists, &mut record);
     }
 }

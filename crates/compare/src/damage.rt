@@ -1,99 +1,57 @@
 // What damages a record before it is audited.
-use crate::draw::draw;
-use crate::lists::{exchange, get, less, more, put};
+use crate::draw::Source;
+use crate::lists::put;
+use crate::record::Record;
 
+// The number of the fate that the page names.
 const SENT: u32 = 1;
 
-// The when of a packet, some slots more where its fate is sent.
-fn later(fate: u32, when: u32, by: u32) -> u32 {
-    if fate == SENT { more(when, by) } else { when }
-}
-
 // The when of every packet whose fate is sent is some slots more: a sender that idles.
-fn idle(fates: &[u32], whens: &mut [u32], by: u32) {
-    let n = fates.len();
-    let mut i = 0;
-    while i < n {
-        let when = later(get(fates, i), get(whens, i), by);
-        put(whens, i, when);
-        i += 1;
+fn idle(fates: &[u32], whens: &mut [u32], slots: u32) {
+    for (fate, when) in fates.iter().zip(whens) {
+        if *fate == SENT {
+            *when = when.saturating_add(slots);
+        }
     }
 }
 
-// What a kind of damage writes, or the place or the slots that it takes: drawn, or from the packet's slot and when.
-fn draw_damage(source: &mut u64, kind: u32, n: u32, slot: u32, when: u32) -> u32 {
-    match kind {
-        0 => draw(source, 8),
-        1 => draw(source, more(n, 3)),
-        2 => more(when, 1),
-        3 => less(when, 1),
-        5 => slot,
-        7 => draw(source, n),
-        8 => draw(source, 3),
-        _ => u32::MAX,
+// Exchanges the entries at two places, where both are there.
+fn exchange(list: &mut [u32], a: usize, b: usize) {
+    if a < list.len() && b < list.len() {
+        list.swap(a, b);
     }
 }
 
-// What a kind does to the fates: j is the packet's place, and x what was drawn for the kind.
-fn damage_fates(kind: u32, j: usize, x: u32, fates: &mut [u32]) {
-    match kind {
-        0 => put(fates, j, x),
-        5 => put(fates, j, SENT),
-        7 => exchange(fates, j, x as usize),
-        _ => {}
+// One damage of a record of n packets. Its kind stays a number, as in bad.rt: the page numbers it, and one `match` reads it.
+fn damage(source: &mut Source, n: u32, slots: &[u32], record: &mut Record) {
+    let j = source.draw(n) as usize;
+    let slot = slots.get(j).copied().unwrap_or(0);
+    let when = record.whens.get(j).copied().unwrap_or(0);
+    match source.draw(9) {
+        0 => put(&mut record.fates, j, source.draw(8)),
+        1 => put(&mut record.bys, j, source.draw(n.saturating_add(3))),
+        2 => put(&mut record.whens, j, when.saturating_add(1)),
+        3 => put(&mut record.whens, j, when.saturating_sub(1)),
+        4 => put(&mut record.whens, j, u32::MAX),
+        5 => {
+            put(&mut record.fates, j, SENT);
+            put(&mut record.whens, j, slot);
+            put(&mut record.bys, j, 0);
+        }
+        6 => put(&mut record.bys, j, u32::MAX),
+        7 => {
+            let other = source.draw(n) as usize;
+            exchange(&mut record.fates, j, other);
+            exchange(&mut record.whens, j, other);
+            exchange(&mut record.bys, j, other);
+        }
+        _ => idle(&record.fates, &mut record.whens, source.draw(3)),
     }
-}
-
-// What a kind does to the whens.
-fn damage_whens(kind: u32, j: usize, x: u32, fates: &[u32], whens: &mut [u32]) {
-    match kind {
-        2..=5 => put(whens, j, x),
-        7 => exchange(whens, j, x as usize),
-        8 => idle(fates, whens, x),
-        _ => {}
-    }
-}
-
-// What a kind does to the bys.
-fn damage_bys(kind: u32, j: usize, x: u32, bys: &mut [u32]) {
-    match kind {
-        1 | 6 => put(bys, j, x),
-        5 => put(bys, j, 0),
-        7 => exchange(bys, j, x as usize),
-        _ => {}
-    }
-}
-
-// One damage of a record of n packets.
-fn damage(
-    source: &mut u64,
-    n: u32,
-    slots: &[u32],
-    fates: &mut [u32],
-    whens: &mut [u32],
-    bys: &mut [u32],
-) {
-    let j = draw(source, n) as usize;
-    let kind = draw(source, 9);
-    let x = draw_damage(source, kind, n, get(slots, j), get(whens, j));
-    damage_fates(kind, j, x, fates);
-    damage_whens(kind, j, x, fates, whens);
-    damage_bys(kind, j, x, bys);
 }
 
 // From one to three damages of a record of n packets.
-pub fn damage_some(
-    source: &mut u64,
-    n: u32,
-    slots: &[u32],
-    fates: &mut [u32],
-    whens: &mut [u32],
-    bys: &mut [u32],
-) {
-    let times = draw(source, 3) + 1;
-    let mut i = 0;
-    while i < times {
-        damage(source, n, slots, fates, whens, bys);
-        i += 1;
+pub fn damage_some(source: &mut Source, n: u32, slots: &[u32], record: &mut Record) {
+    for _ in 0..source.draw_from_one(3) {
+        damage(source, n, slots, record);
     }
 }

@@ -10,10 +10,11 @@ mod draw;
 mod hand;
 mod lists;
 mod live;
+mod record;
 mod said;
-mod whole;
 
 use crate::answers::say_case;
+use crate::said::Sum;
 use std::io;
 
 const BATCHES: u16 = 400;
@@ -25,35 +26,24 @@ fn letter(x: u64) -> u8 {
 }
 
 // Two letters of a sum, which lead from a difference in a batch to its case.
-fn write_letters<R: Print>(rt: &R, sum: u64) -> io::Result<()> {
-    let letters = [letter(sum), letter(sum / 26)];
-    rt.write_all(&letters)
+fn letters(sum: u64) -> [u8; 2] {
+    [letter(sum), letter(sum / 26)]
 }
 
-// Answers a batch's cases, and writes the letters of each. Gives their sum.
-fn answer<R: Print>(rt: &R, batch: u16) -> io::Result<u64> {
-    let mut sum: u64 = 1;
-    let mut i = 0;
-    while i < CASES {
-        say_case(&mut sum, batch as u32 * CASES + i);
-        write_letters(rt, sum)?;
-        i += 1;
-    }
-    Ok(sum)
-}
-
-// A batch's line.
+// A batch's line: the letters of each of its cases, as they are answered, and their sum.
 fn write_line<R: Print>(rt: &R, batch: u16) -> io::Result<()> {
+    let mut sum = Sum::new();
     print!(rt; "{batch},")?;
-    let sum = answer(rt, batch)?;
-    println!(rt; ",{sum}")
+    for i in 0..CASES {
+        say_case(&mut sum, batch as u32 * CASES + i);
+        rt.write_all(&letters(sum.so_far()))?;
+    }
+    println!(rt; ",{}", sum.so_far())
 }
 
 fn main(rt: HostRuntime) -> io::Result<()> {
-    let mut batch = 0;
-    while batch < BATCHES {
+    for batch in 0..BATCHES {
         write_line(&rt, batch)?;
-        batch += 1;
     }
     Ok(())
 }
