@@ -1,41 +1,46 @@
 -- What the arguments ask for.
-use Rattle.std.specs.Prelude.{ℕ, Bool, true, cond, ◌&&◌, List, [], ◌∷◌, map, get_or, take, drop, eqb}
-use Rattle.field.specs.Fields.{same}
+use Rattle.std.specs.Prelude.{ℕ, Bool, cond, List, [], ◌∷◌, map, Option, Some, None, is_some}
+use Rattle.std.specs.Option.{option_map}
+use Rattle.std.specs.List.{list_all}
+use Rattle.runs.specs.declared.Policy.{Policy}
 use Rattle.runs.specs.declared.Policy.TheVariants.{Greedy, PG, MF, Plan}
 use Rattle.lab_jobs.specs.declared.jobs.Job.{Job}
-use Rattle.lab_jobs.specs.declared.jobs.Job.TheVariants.{Run, Table, Audit, None}
-use Rattle.lab_jobs.specs.Words.{kinds, word_of}
+use Rattle.lab_jobs.specs.declared.jobs.Job.TheVariants.{Run, Table, Audit}
+use Rattle.lab_jobs.specs.declared.words.Word.{Word}
+use Rattle.lab_jobs.specs.declared.words.Word.TheVariants as word
+use Rattle.lab_jobs.specs.Words.{number_of, beta_of, word_of}
 
-unfoldable pub all_betas : List ℕ → Bool
-all_betas [] = true
-all_betas (kind ∷ words) = eqb kind kinds.beta && all_betas words
+abbrev pub all_betas : List Word → Bool
+all_betas words = list_all (λ (w : Word). is_some (beta_of w)) words
 
--- `table ROOM BETA..`
-unfoldable pub is_table : List ℕ → Bool
-is_table words = same (take 2 words) (kinds.table ∷ kinds.number ∷ []) && all_betas (drop 2 words)
+-- MF's numbers
+abbrev pub mf_by : Option ℕ → Option ℕ → Option ℕ → Option Policy
+mf_by (Some lo) (Some hi) (Some r) = Some (MF (record { lo = lo; hi = hi; r = r }))
+mf_by _ _ _ = None
 
--- the kinds of the words, and their numbers, place by place: `run greedy ROOM`, `run pg ROOM BETA`, `run mf ROOM LO HI R`, `run plan ROOM`,
--- `table ROOM BETA..`, `audit ROOM`, or nothing
-unfoldable pub job_from : List ℕ → List ℕ → List ℕ → Job
-job_from words firsts seconds =
-    let at : ℕ → ℕ = λ place. get_or firsts place 0 in
-    cond (same words (kinds.run ∷ kinds.greedy ∷ kinds.number ∷ [])) (Run Greedy (at 2))
-    (cond (same words (kinds.run ∷ kinds.pg ∷ kinds.number ∷ kinds.beta ∷ []))
-    (Run (PG (record { num = at 3; den = get_or seconds 3 0 })) (at 2))
-    (cond (same words (kinds.run ∷ kinds.mf ∷ kinds.number ∷ kinds.number ∷ kinds.number ∷ kinds.number ∷ []))
-    (Run (MF (record { lo = at 3; hi = at 4; r = at 5 })) (at 2))
-    (cond (same words (kinds.run ∷ kinds.plan ∷ kinds.number ∷ [])) (Run Plan (at 2))
-    (cond (is_table words) (Table (at 1)) (cond (same words (kinds.audit ∷ kinds.number ∷ [])) (Audit (at 1)) None)))))
+-- a policy by its name and its parameters: `greedy`, `pg BETA`, `mf LO HI R`, `plan`
+unfoldable pub policy_from : Word → List Word → Option Policy
+policy_from word.Greedy [] = Some Greedy
+policy_from word.Pg (beta ∷ []) = option_map PG (beta_of beta)
+policy_from word.Mf (lo ∷ hi ∷ r ∷ []) = mf_by (number_of lo) (number_of hi) (number_of r)
+policy_from word.Plan [] = Some Plan
+policy_from _ _ = None
 
--- the kinds of some arguments, and their numbers
-abbrev pub kinds_of : List (List ℕ) → List ℕ
-kinds_of arguments = map (λ (bytes : List ℕ). (word_of bytes).kind) arguments
+abbrev pub run_by : Option Policy → Option ℕ → Option Job
+run_by (Some policy) (Some room) = Some (Run policy room)
+run_by _ _ = None
 
-abbrev pub firsts_of : List (List ℕ) → List ℕ
-firsts_of arguments = map (λ (bytes : List ℕ). (word_of bytes).first) arguments
+-- a command by its name and its parameters: `run POLICY ROOM`, with the policy's parameters behind the room; `table ROOM BETA..`; `audit ROOM`
+unfoldable pub command_from : Word → List Word → Option Job
+command_from word.Run (policy ∷ room ∷ parameters) = run_by (policy_from policy parameters) (number_of room)
+command_from word.Table (room ∷ betas) = cond (all_betas betas) (option_map Table (number_of room)) None
+command_from word.Audit (room ∷ []) = option_map Audit (number_of room)
+command_from _ _ = None
 
-abbrev pub seconds_of : List (List ℕ) → List ℕ
-seconds_of arguments = map (λ (bytes : List ℕ). (word_of bytes).second) arguments
+unfoldable pub job_from : List Word → Option Job
+job_from [] = None
+job_from (name ∷ parameters) = command_from name parameters
 
-abbrev pub job_of : List (List ℕ) → Job
-job_of arguments = job_from (kinds_of arguments) (firsts_of arguments) (seconds_of arguments)
+-- the job of some arguments
+abbrev pub job_of : List (List ℕ) → Option Job
+job_of arguments = job_from (map word_of arguments)

@@ -1,61 +1,64 @@
 -- An argument as a word: a command, a policy, a number of 1 to 7 digits, or a beta, NUMBER/NUMBER.
-use Rattle.std.specs.Prelude.{ℕ, suc, cond, List, [], ◌∷◌, take, drop, eqb}
-use Rattle.field.specs.Fields.{same, is_number, value_from}
-use Rattle.lab_jobs.specs.declared.words.Number.{Number}
-use Rattle.lab_jobs.specs.declared.words.Number.TheVariants.{Is, Not}
+use Rattle.std.specs.Prelude.{ℕ, ◌+◌, cond, List, take, drop, ◌==◌, codes, position, Option, Some, None}
+use Rattle.std.specs.Str.{bytes_eq}
+use Rattle.model.specs.declared.Beta.{Beta}
+use Rattle.field.specs.Fields.{is_number, value_from}
 use Rattle.lab_jobs.specs.declared.words.Word.{Word}
+use Rattle.lab_jobs.specs.declared.words.Word.TheVariants as word
 use Rattle.signs.specs.Signs.{slash}
 
--- the kinds of words, each by a number
-pub record Kinds : Type 0 where
-  pub other : ℕ
-  pub run : ℕ
-  pub table : ℕ
-  pub audit : ℕ
-  pub greedy : ℕ
-  pub pg : ℕ
-  pub mf : ℕ
-  pub plan : ℕ
-  pub number : ℕ
-  pub beta : ℕ
+-- the number that a word is
+abbrev pub number_of : Word → Option ℕ
+number_of (word.Number n) = Some n
+number_of _ = None
 
-abbrev pub kinds : Kinds
-kinds = record { other = 0; run = 1; table = 2; audit = 3; greedy = 4; pg = 5; mf = 6; plan = 7; number = 8; beta = 9 }
-
-abbrev pub word : ℕ → ℕ → ℕ → Word
-word kind first second = record { kind = kind; first = first; second = second }
+-- the beta that a word is
+abbrev pub beta_of : Word → Option Beta
+beta_of (word.Beta beta) = Some beta
+beta_of _ = None
 
 -- `run`, `table`, `audit`, `greedy`, `pg`, `mf`, `plan`
-unfoldable pub name_in : List ℕ → ℕ
+unfoldable pub name_in : List ℕ → Option Word
 name_in bytes =
-    cond (same bytes (114 ∷ 117 ∷ 110 ∷ [])) kinds.run
-    (cond (same bytes (116 ∷ 97 ∷ 98 ∷ 108 ∷ 101 ∷ [])) kinds.table
-    (cond (same bytes (97 ∷ 117 ∷ 100 ∷ 105 ∷ 116 ∷ [])) kinds.audit
-    (cond (same bytes (103 ∷ 114 ∷ 101 ∷ 101 ∷ 100 ∷ 121 ∷ [])) kinds.greedy
-    (cond (same bytes (112 ∷ 103 ∷ [])) kinds.pg
-    (cond (same bytes (109 ∷ 102 ∷ [])) kinds.mf
-    (cond (same bytes (112 ∷ 108 ∷ 97 ∷ 110 ∷ [])) kinds.plan kinds.other))))))
+    cond (bytes_eq bytes (codes "run")) (Some word.Run)
+    (cond (bytes_eq bytes (codes "table")) (Some word.Table)
+    (cond (bytes_eq bytes (codes "audit")) (Some word.Audit)
+    (cond (bytes_eq bytes (codes "greedy")) (Some word.Greedy)
+    (cond (bytes_eq bytes (codes "pg")) (Some word.Pg)
+    (cond (bytes_eq bytes (codes "mf")) (Some word.Mf)
+    (cond (bytes_eq bytes (codes "plan")) (Some word.Plan) None))))))
 
-unfoldable pub number_in : List ℕ → Number
-number_in bytes = cond (is_number bytes) (Is (value_from 0 bytes)) Not
+unfoldable pub number_in : List ℕ → Option ℕ
+number_in bytes = cond (is_number bytes) (Some (value_from 0 bytes)) None
 
--- the place of the first slash; the length where there is none
-unfoldable pub slash_at : List ℕ → ℕ
-slash_at [] = 0
-slash_at (b ∷ bytes) = cond (eqb b slash) 0 (suc (slash_at bytes))
+-- the place of the first slash
+abbrev pub slash_at : List ℕ → Option ℕ
+slash_at bytes = position (λ (b : ℕ). b == slash) bytes
 
-abbrev pub beta_by : Number → Number → Word
-beta_by (Is num) (Is den) = word kinds.beta num den
-beta_by (Is num) Not = word kinds.other 0 0
-beta_by Not den = word kinds.other 0 0
+abbrev pub beta_by : Option ℕ → Option ℕ → Option Beta
+beta_by (Some num) (Some den) = Some (record { num = num; den = den })
+beta_by _ _ = None
+
+-- the numbers before and behind a slash
+abbrev pub beta_round : List ℕ → Option ℕ → Option Beta
+beta_round bytes (Some at) = beta_by (number_in (take at bytes)) (number_in (drop (at + 1) bytes))
+beta_round bytes None = None
 
 -- the numbers before and behind the first slash
-unfoldable pub beta_in : List ℕ → Word
-beta_in bytes = beta_by (number_in (take (slash_at bytes) bytes)) (number_in (drop (suc (slash_at bytes)) bytes))
+unfoldable pub beta_in : List ℕ → Option Beta
+beta_in bytes = beta_round bytes (slash_at bytes)
 
-abbrev pub number_or : Number → Word → Word
-number_or (Is n) other = word kinds.number n 0
-number_or Not other = other
+abbrev pub beta_or_other : Option Beta → Word
+beta_or_other (Some beta) = word.Beta beta
+beta_or_other None = word.Other
+
+abbrev pub number_or : Option ℕ → Option Beta → Word
+number_or (Some n) beta = word.Number n
+number_or None beta = beta_or_other beta
+
+abbrev pub name_or : Option Word → Word → Word
+name_or (Some name) _ = name
+name_or None w = w
 
 unfoldable pub word_of : List ℕ → Word
-word_of bytes = cond (eqb (name_in bytes) kinds.other) (number_or (number_in bytes) (beta_in bytes)) (word (name_in bytes) 0 0)
+word_of bytes = name_or (name_in bytes) (number_or (number_in bytes) (beta_in bytes))

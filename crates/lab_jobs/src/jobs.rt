@@ -1,90 +1,75 @@
 // What the arguments ask for.
-ghost use Rattle.std.specs.Prelude.{◌≡◌, get_or};
-ghost use Rattle.lab_jobs.specs.Jobs.{all_betas, is_table, job_from};
+ghost use Rattle.std.specs.Prelude.{◌≡◌};
+ghost use Rattle.lab_jobs.specs.Jobs.{all_betas, policy_from, command_from, job_from};
 
-use crate::words::{AUDIT, BETA, GREEDY, MF, NUMBER, PG, PLAN, RUN, TABLE, same};
-use model::{Beta, Marking};
+use crate::words::Word;
+use model::Marking;
 use runs::Policy;
 
-// A command with its room; a table's betas are the words behind its room.
+// A command with its room.
 #[derive(Clone, Copy)]
 pub enum Job {
     Run(Policy, usize),
     Table(usize),
     Audit(usize),
-    None,
 }
 
-// The number at a place; 0 where there is none.
-fn at(numbers: &[u32], place: usize) -> u32
-    ensures { result ≡ get_or numbers.now place 0 }
-{
-    if place < numbers.len() {
-        return numbers[place];
-    }
-    0
-}
-
-fn all_betas(words: &[u8]) -> bool
+fn all_betas(words: &[Word]) -> bool
     ensures { result ≡ all_betas words.now }
 {
-    let mut i = 0;
-    while i < words.len() {
-        if words[i] != BETA {
-            return false;
+    words.iter().all(|word| word.beta().is_some())
+}
+
+// A policy by its name and its parameters.
+#[tactic(auto, using(crate::proofs::Asking::policy_is))]
+fn policy_from(name: Word, parameters: &[Word]) -> Option<Policy>
+    ensures { result ≡ policy_from name parameters.now }
+{
+    match (name, parameters) {
+        (Word::Greedy, []) => Some(Policy::Greedy),
+        (Word::Pg, [beta]) => {
+            let beta = beta.beta()?;
+            Some(Policy::PG(beta))
         }
-        i += 1;
+        (Word::Mf, [lo, hi, r]) => {
+            let lo = lo.number()?;
+            let hi = hi.number()?;
+            let r = r.number()? as usize;
+            Some(Policy::MF(Marking { lo, hi, r }))
+        }
+        (Word::Plan, []) => Some(Policy::Plan),
+        _ => None,
     }
-    true
 }
 
-fn is_table(words: &[u8]) -> bool
-    ensures { result ≡ is_table words.now }
+// A command by its name and its parameters; a table's betas are the words behind its room.
+#[tactic(auto, using(crate::proofs::Asking::command_is))]
+fn command_from(name: Word, parameters: &[Word]) -> Option<Job>
+    ensures { result ≡ command_from name parameters.now }
 {
-    if words.len() < 2 {
-        return false;
+    match (name, parameters) {
+        (Word::Run, [policy, room, parameters @ ..]) => {
+            let policy = policy_from(*policy, parameters)?;
+            let room = room.number()? as usize;
+            Some(Job::Run(policy, room))
+        }
+        (Word::Table, [room, betas @ ..]) if all_betas(betas) => {
+            let room = room.number()? as usize;
+            Some(Job::Table(room))
+        }
+        (Word::Audit, [room]) => {
+            let room = room.number()? as usize;
+            Some(Job::Audit(room))
+        }
+        _ => None,
     }
-    if same(&words[..2], &[TABLE, NUMBER]) {
-        return all_betas(&words[2..]);
-    }
-    false
 }
 
-// The job of some words, by their kinds and their numbers.
-pub fn job_from(words: &[u8], firsts: &[u32], seconds: &[u32]) -> Job
-    ensures { result ≡ job_from words.now firsts.now seconds.now }
+// The job of some words; none where they ask for nothing.
+#[tactic(auto, unfolding(crate::specs::Jobs::job_from))]
+pub fn job_from(words: &[Word]) -> Option<Job>
+    ensures { result ≡ job_from words.now }
 {
-    if same(words, &[RUN, GREEDY, NUMBER]) {
-        let room = at(firsts, 2) as usize;
-        return Job::Run(Policy::Greedy, room);
-    }
-    if same(words, &[RUN, PG, NUMBER, BETA]) {
-        let beta = Beta {
-            num: at(firsts, 3),
-            den: at(seconds, 3),
-        };
-        let room = at(firsts, 2) as usize;
-        return Job::Run(Policy::PG(beta), room);
-    }
-    if same(words, &[RUN, MF, NUMBER, NUMBER, NUMBER, NUMBER]) {
-        let lo = at(firsts, 3);
-        let hi = at(firsts, 4);
-        let r = at(firsts, 5) as usize;
-        let m = Marking { lo, hi, r };
-        let room = at(firsts, 2) as usize;
-        return Job::Run(Policy::MF(m), room);
-    }
-    if same(words, &[RUN, PLAN, NUMBER]) {
-        let room = at(firsts, 2) as usize;
-        return Job::Run(Policy::Plan, room);
-    }
-    if is_table(words) {
-        let room = at(firsts, 1) as usize;
-        return Job::Table(room);
-    }
-    if same(words, &[AUDIT, NUMBER]) {
-        let room = at(firsts, 1) as usize;
-        return Job::Audit(room);
-    }
-    Job::None
+    let (name, parameters) = words.split_first()?;
+    command_from(*name, parameters)
 }

@@ -1,173 +1,122 @@
 // An argument as a word: a command, a policy, a number or a beta.
 ghost use Rattle.std.specs.Prelude.{◌≡◌};
-ghost use Rattle.field.specs.Fields.{same as same_bytes};
-ghost use Rattle.lab_jobs.specs.Words.{name_in, number_in, slash_at, beta_in, word_of};
+ghost use Rattle.lab_jobs.specs.Words.{number_of, beta_of, name_in, number_in, slash_at, beta_in, word_of};
 
+use model::Beta;
 use signs::{NINE, ZERO};
-
-// The kinds of words.
-pub const OTHER: u8 = 0;
-
-pub const RUN: u8 = 1;
-
-pub const TABLE: u8 = 2;
-
-pub const AUDIT: u8 = 3;
-
-pub const GREEDY: u8 = 4;
-
-pub const PG: u8 = 5;
-
-pub const MF: u8 = 6;
-
-pub const PLAN: u8 = 7;
-
-pub const NUMBER: u8 = 8;
-
-pub const BETA: u8 = 9;
 
 // The most digits of a number.
 const DIGITS: usize = 7;
 
 #[derive(Clone, Copy)]
-pub enum Number {
-    Is(u32),
-    Not,
+pub enum Word {
+    Other,
+    Run,
+    Table,
+    Audit,
+    Greedy,
+    Pg,
+    Mf,
+    Plan,
+    Number(u32),
+    Beta(Beta),
 }
 
-// A word's kind, and its numbers: one of a number, two of a beta.
-#[derive(Clone, Copy)]
-pub struct Word {
-    pub kind: u8,
-    pub first: u32,
-    pub second: u32,
-}
-
-// Whether two lists of bytes are the same.
-pub fn same(a: &[u8], b: &[u8]) -> bool
-    ensures { result ≡ same_bytes a.now b.now }
-{
-    if a.len() != b.len() {
-        return false;
-    }
-    let mut i = 0;
-    while i < a.len() {
-        if a[i] != b[i] {
-            return false;
+impl Word {
+    // The number that a word is.
+    pub(crate) fn number(self) -> Option<u32>
+        ensures { result ≡ number_of self }
+    {
+        match self {
+            Word::Number(number) => Some(number),
+            _ => None,
         }
-        i += 1;
     }
-    true
+
+    // The beta that a word is.
+    pub(crate) fn beta(self) -> Option<Beta>
+        ensures { result ≡ beta_of self }
+    {
+        match self {
+            Word::Beta(beta) => Some(beta),
+            _ => None,
+        }
+    }
 }
 
-fn number_in(bytes: &[u8]) -> Number
+fn number_in(bytes: &[u8]) -> Option<u32>
     ensures { result ≡ number_in bytes.now }
 {
-    if bytes.len() < 1 {
-        return Number::Not;
-    }
-    if DIGITS < bytes.len() {
-        return Number::Not;
+    if bytes.is_empty() || DIGITS < bytes.len() {
+        return None;
     }
     let mut number = 0;
-    let mut i = 0;
-    while i < bytes.len() {
-        let byte = bytes[i];
-        if byte < ZERO {
-            return Number::Not;
+    for byte in bytes {
+        if *byte < ZERO || NINE < *byte {
+            return None;
         }
-        if NINE < byte {
-            return Number::Not;
-        }
-        number = number * 10 + (byte - ZERO) as u32;
-        i += 1;
+        number = number * 10 + (*byte - ZERO) as u32;
     }
-    Number::Is(number)
+    Some(number)
 }
 
-fn slash_at(bytes: &[u8]) -> usize
+fn slash_at(bytes: &[u8]) -> Option<usize>
     ensures { result ≡ slash_at bytes.now }
 {
-    let mut i = 0;
-    while i < bytes.len() {
-        if bytes[i] == b'/' {
-            return i;
-        }
-        i += 1;
-    }
-    i
+    bytes.iter().position(|byte| *byte == b'/')
 }
 
-fn beta_in(bytes: &[u8]) -> Word
+#[tactic(auto, using(crate::proofs::Wording::behind_is), unfolding(crate::specs::Words::beta_in))]
+fn beta_in(bytes: &[u8]) -> Option<Beta>
     ensures { result ≡ beta_in bytes.now }
 {
-    let other = Word {
-        kind: OTHER,
-        first: 0,
-        second: 0,
-    };
-    let at = slash_at(bytes);
-    if bytes.len() <= at {
-        return other;
-    }
-    let from = at + 1;
-    match number_in(&bytes[..at]) {
-        Number::Is(num) => match number_in(&bytes[from..]) {
-            Number::Is(den) => Word {
-                kind: BETA,
-                first: num,
-                second: den,
-            },
-            Number::Not => other,
-        },
-        Number::Not => other,
-    }
+    let at = slash_at(bytes)?;
+    let num = number_in(&bytes[..at])?;
+    let den = number_in(&bytes[at + 1..])?;
+    Some(Beta { num, den })
 }
 
-fn name_in(bytes: &[u8]) -> u8
+// By `==`: in a match on byte strings the last arm is 27 goals, of facts that have no name which a proof may cite.
+#[tactic(auto, unfolding(crate::specs::Words::name_in))]
+fn name_in(bytes: &[u8]) -> Option<Word>
     ensures { result ≡ name_in bytes.now }
 {
-    if same(bytes, b"run") {
-        return RUN;
+    if bytes == b"run".as_slice() {
+        return Some(Word::Run);
     }
-    if same(bytes, b"table") {
-        return TABLE;
+    if bytes == b"table".as_slice() {
+        return Some(Word::Table);
     }
-    if same(bytes, b"audit") {
-        return AUDIT;
+    if bytes == b"audit".as_slice() {
+        return Some(Word::Audit);
     }
-    if same(bytes, b"greedy") {
-        return GREEDY;
+    if bytes == b"greedy".as_slice() {
+        return Some(Word::Greedy);
     }
-    if same(bytes, b"pg") {
-        return PG;
+    if bytes == b"pg".as_slice() {
+        return Some(Word::Pg);
     }
-    if same(bytes, b"mf") {
-        return MF;
+    if bytes == b"mf".as_slice() {
+        return Some(Word::Mf);
     }
-    if same(bytes, b"plan") {
-        return PLAN;
+    if bytes == b"plan".as_slice() {
+        return Some(Word::Plan);
     }
-    OTHER
+    None
 }
 
+#[tactic(auto, unfolding(crate::specs::Words::word_of))]
 pub fn word_of(bytes: &[u8]) -> Word
     ensures { result ≡ word_of bytes.now }
 {
-    let name = name_in(bytes);
-    if name != OTHER {
-        return Word {
-            kind: name,
-            first: 0,
-            second: 0,
-        };
+    if let Some(name) = name_in(bytes) {
+        return name;
     }
-    match number_in(bytes) {
-        Number::Is(number) => Word {
-            kind: NUMBER,
-            first: number,
-            second: 0,
-        },
-        Number::Not => beta_in(bytes),
+    if let Some(number) = number_in(bytes) {
+        return Word::Number(number);
+    }
+    match beta_in(bytes) {
+        Some(beta) => Word::Beta(beta),
+        None => Word::Other,
     }
 }

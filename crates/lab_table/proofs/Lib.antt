@@ -1,5 +1,4 @@
 -- Laws on plain values, for the proofs of this crate and of lab.
 pub mod Chain
 pub mod Tables
-pub mod Extremes
 pub mod Spoken

@@ -1,5 +1,7 @@
 -- `table`: all policies side by side, a line each: greedy, PG with each beta, MF where the trace has two values, and the plan.
-use Rattle.std.specs.Prelude.{ℕ, ◌+◌, ◌*◌, min, max, cond, List, [], ◌∷◌, ◌++◌, length, eqb, ltb}
+use Rattle.std.specs.Prelude.{ℕ, ◌+◌, ◌*◌, min, max, cond, List, [], ◌∷◌, ◌++◌, length, map, eqb, ltb, Result, Ok, Err, unwrap_or}
+use Rattle.std.specs.List.{reduce}
+use Rattle.model.specs.declared.Beta.{Beta}
 use Rattle.model.specs.declared.Totals.{Totals}
 use Rattle.model.specs.Answers.{Reply}
 use Rattle.signs.specs.Signs.{cr, lf}
@@ -17,51 +19,42 @@ most_betas = 32
 abbrev pub table_limit : ℕ
 table_limit = 75 + 239 * (3 + most_betas)
 
--- the lines of some policies, or the refusal of the first that is refused
-pub data Lines : Type 0 where
-  refused : ℕ → ℕ → Lines
-  written : List ℕ → Lines
+-- the lines of some policies; or the number and the place of the first refusal
+abbrev pub Lines : Type 0
+Lines = Result (List ℕ) (ℕ × ℕ)
 
 abbrev pub behind : List ℕ → Lines → Lines
-behind line (refused number place) = refused number place
-behind line (written lines) = written (line ++ lines)
+behind line (Ok lines) = Ok (line ++ lines)
+behind line (Err refusal) = Err refusal
 
 -- the line of a call before some more, or its refusal
 abbrev pub line_unless : Policy → Reply → ℕ → Lines → Lines
 line_unless policy reply plan more =
-    cond (eqb reply.number 0) (behind (line_of policy reply.totals plan) more) (refused reply.number reply.place)
+    cond (eqb reply.number 0) (behind (line_of policy reply.totals plan) more) (Err (reply.number, reply.place))
 
 unfoldable pub lines_of : ℕ → List ℕ → List ℕ → ℕ → List Policy → Lines
-lines_of room slots values plan [] = written []
+lines_of room slots values plan [] = Ok []
 lines_of room slots values plan (policy ∷ policies) =
     line_unless policy (reply_of policy room slots values) plan (lines_of room slots values plan policies)
 
 -- PG with each beta
-unfoldable pub betas_of : List ℕ → List ℕ → List Policy
-betas_of [] dens = []
-betas_of (num ∷ nums) [] = []
-betas_of (num ∷ nums) (den ∷ dens) = PG (record { num = num; den = den }) ∷ betas_of nums dens
+abbrev pub betas_of : List Beta → List Policy
+betas_of betas = map PG betas
 
 -- the lines whose refusal refuses the table
-abbrev pub compared_of : ℕ → List ℕ → List ℕ → ℕ → List ℕ → List ℕ → Lines
-compared_of room slots values plan nums dens = lines_of room slots values plan (Greedy ∷ betas_of nums dens)
+abbrev pub compared_of : ℕ → List ℕ → List ℕ → ℕ → List Beta → Lines
+compared_of room slots values plan betas = lines_of room slots values plan (Greedy ∷ betas_of betas)
 
-unfoldable pub lowest_from : ℕ → List ℕ → ℕ
-lowest_from low [] = low
-lowest_from low (v ∷ values) = lowest_from (min low v) values
-
-unfoldable pub greatest_from : ℕ → List ℕ → ℕ
-greatest_from high [] = high
-greatest_from high (v ∷ values) = greatest_from (max high v) values
-
--- the lowest value of a trace; 0 of none
+-- the lowest value of a trace, and the greatest; 0 of none
 abbrev pub lowest : List ℕ → ℕ
-lowest [] = 0
-lowest (v ∷ values) = lowest_from v values
+lowest values = unwrap_or (reduce min values) 0
+
+abbrev pub greatest : List ℕ → ℕ
+greatest values = unwrap_or (reduce max values) 0
 
 -- MF with the trace's lowest value as lo, its greatest as hi, and r = 1
 abbrev pub trace_mf : List ℕ → Policy
-trace_mf values = MF (record { lo = lowest values; hi = greatest_from 0 values; r = 1 })
+trace_mf values = MF (record { lo = lowest values; hi = greatest values; r = 1 })
 
 -- its line; none where it is refused, as where the trace has not two values
 unfoldable pub mf_line : ℕ → List ℕ → List ℕ → ℕ → List ℕ
@@ -79,24 +72,22 @@ table_header =
 
 -- a table, or the refusal of one of its calls
 abbrev pub table_by : Lines → List ℕ → List ℕ
-table_by (refused number place) last = refusal_text number place
-table_by (written lines) last = table_header ++ (lines ++ last)
+table_by (Ok lines) last = table_header ++ (lines ++ last)
+table_by (Err (number, place)) last = refusal_text number place
 
 -- the table where the plan's run has these totals
-unfoldable pub table_with : ℕ → List ℕ → List ℕ → List ℕ → List ℕ → Totals → List ℕ
-table_with room nums dens slots values plan =
+unfoldable pub table_with : ℕ → List Beta → List ℕ → List ℕ → Totals → List ℕ
+table_with room betas slots values plan =
     let best = plan.sent.value in
-    table_by (compared_of room slots values best nums dens) (mf_line room slots values best ++ line_of Plan plan best)
+    table_by (compared_of room slots values best betas) (mf_line room slots values best ++ line_of Plan plan best)
 
 -- `table ROOM BETA..`
-unfoldable pub table_text : ℕ → List ℕ → List ℕ → List ℕ → List ℕ → List ℕ
-table_text room nums dens slots values =
+unfoldable pub table_text : ℕ → List Beta → List ℕ → List ℕ → List ℕ
+table_text room betas slots values =
     let plan = reply_of Plan room slots values in
-    cond (eqb plan.number 0) (table_with room nums dens slots values plan.totals) (refusal_text plan.number plan.place)
+    cond (eqb plan.number 0) (table_with room betas slots values plan.totals) (refusal_text plan.number plan.place)
 
--- the same for lists of any length: nothing is said in a list that is too short for the longest table, nor of betas that are not as many numerators as
--- denominators, or too many
-unfoldable pub table_spoken : ℕ → List ℕ → List ℕ → List ℕ → List ℕ → List ℕ → List ℕ
-table_spoken room nums dens slots values out =
-    cond (ltb (length out) table_limit) []
-    (cond (eqb (length dens) (length nums)) (cond (ltb most_betas (length nums)) [] (table_text room nums dens slots values)) [])
+-- the same for lists of any length: nothing is said in a list that is too short for the longest table, nor of too many betas
+unfoldable pub table_spoken : ℕ → List Beta → List ℕ → List ℕ → List ℕ → List ℕ
+table_spoken room betas slots values out =
+    cond (ltb (length out) table_limit) [] (cond (ltb most_betas (length betas)) [] (table_text room betas slots values))

@@ -12,11 +12,11 @@ mod lines;
 mod refusal;
 
 use lines::draft;
-use model::Totals;
+use model::{Beta, Totals};
 use output::put;
 
 // The most betas of a table.
-const BETAS: usize = 32;
+pub const BETAS: usize = 32;
 
 // The most bytes of a table: its header, and the lines of greedy, of each beta, of MF and of the plan.
 const BYTES: usize = 75 + 239 * (3 + BETAS);
@@ -25,41 +25,29 @@ const BYTES: usize = 75 + 239 * (3 + BETAS);
 pub fn counts_of(t: Totals) -> [u64; 7]
     ensures { result ≡ counts_of t }
 {
-    let sent = t.sent.count as u64;
-    let value = t.sent.value as u64;
-    let rejected = t.rejected.count as u64;
-    let pushed_out = t.pushed_out.count as u64;
-    let preempted = t.preempted.count as u64;
-    let flushed = t.flushed.count as u64;
-    let most_held = t.most_held as u64;
     [
-        sent, value, rejected, pushed_out, preempted, flushed, most_held,
+        t.sent.count.into(),
+        t.sent.value.into(),
+        t.rejected.count.into(),
+        t.pushed_out.count.into(),
+        t.preempted.count.into(),
+        t.flushed.count.into(),
+        t.most_held as u64,
     ]
 }
 
-// The table, or the first refusal: the plan's comes first. Nothing is written where the list is too short for the longest table, or the betas are not as
-// many numerators as denominators, or too many.
-pub fn table(
-    room: usize,
-    slots: &[u32],
-    values: &[u32],
-    nums: &[u32],
-    dens: &[u32],
-    out: &mut [u8],
-) -> usize
-    ensures { WroteIn out result 0 (table_spoken room nums.now dens.now slots.now values.now (was out)) }
+// The table, or the first refusal: the plan's comes first. Nothing is written where the list is too short for the longest table, or the betas are too many.
+pub fn table(room: usize, slots: &[u32], values: &[u32], betas: &[Beta], out: &mut [u8]) -> usize
+    ensures { WroteIn out result 0 (table_spoken room betas.now slots.now values.now (was out)) }
 {
     if out.len() < BYTES {
         return 0;
     }
-    if dens.len() != nums.len() {
-        return 0;
-    }
-    let many = BETAS < nums.len();
+    let many = BETAS < betas.len();
     if many {
         return 0;
     }
     let mut text = [0u8; BYTES];
-    let end = draft(room, slots, values, nums, dens, &mut text);
+    let end = draft(room, slots, values, betas, &mut text);
     put(out, 0, &text[..end])
 }

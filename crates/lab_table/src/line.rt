@@ -40,11 +40,9 @@ fn put_numbers(out: &mut [u8], at: usize, numbers: &[u64]) -> usize
     ensures { WroteIn out result at (behind_commas numbers.now) }
 {
     let mut end = at;
-    let mut i = 0;
-    while i < numbers.len() {
+    for number in numbers {
         out[end] = COMMA;
-        end = put_number(out, end + 1, numbers[i]);
-        i += 1;
+        end = put_number(out, end + 1, *number);
     }
     end
 }

@@ -1,7 +1,7 @@
 // The lines of the table: all policies side by side.
 ghost use Rattle.std.specs.Prelude.{◌≡◌, [], ◌∷◌, ◌+◌, ◌*◌, ◌≤◌, length};
 ghost use Rattle.output.specs.Writing.{WroteIn};
-ghost use Rattle.lab_table.specs.Table.{most_betas, table_limit, lowest as lowest_of, greatest_from, lines_of, betas_of, compared_of, mf_line, table_with, table_text};
+ghost use Rattle.lab_table.specs.Table.{most_betas, table_limit, lowest, greatest, lines_of, betas_of, compared_of, mf_line, table_with, table_text};
 ghost use Rattle.lab_table.specs.Writing.{BeginsIn, LinedIn};
 
 use crate::line::put_line;
@@ -13,42 +13,16 @@ use runs::{Policy, reply};
 const HEADER: [u8; 75] =
     *b"policy,sent,value,rejected,pushed out,preempted,flushed,most held,of plan\r\n";
 
-// Where the lines end, or the first refusal.
-#[derive(Clone, Copy)]
-pub enum Lined {
-    At(usize),
-    Refused(Refusal),
-}
-
 fn lowest(values: &[u32]) -> u32
-    ensures { result ≡ lowest_of values.now }
+    ensures { result ≡ lowest values.now }
 {
-    if values.len() == 0 {
-        return 0;
-    }
-    let mut low = values[0];
-    let mut i = 1;
-    while i < values.len() {
-        if values[i] < low {
-            low = values[i];
-        }
-        i += 1;
-    }
-    low
+    values.iter().copied().min().unwrap_or(0)
 }
 
 fn greatest(values: &[u32]) -> u32
-    ensures { result ≡ greatest_from 0 values.now }
+    ensures { result ≡ greatest values.now }
 {
-    let mut high = 0;
-    let mut i = 0;
-    while i < values.len() {
-        if high < values[i] {
-            high = values[i];
-        }
-        i += 1;
-    }
-    high
+    values.iter().copied().max().unwrap_or(0)
 }
 
 // Writes the line of a policy.
@@ -60,13 +34,13 @@ fn put_policy(
     slots: &[u32],
     values: &[u32],
     plan: u32,
-) -> Lined
+) -> Result<usize, Refusal>
     requires { at + 239 ≤ length out.old }
     ensures { LinedIn out result at (lines_of room slots.now values.now plan (policy ∷ [])) }
 {
     match reply(policy, room, slots, values) {
-        RunAnswer::Refused(refusal) => Lined::Refused(refusal),
-        RunAnswer::Ran(totals) => Lined::At(put_line(out, at, policy, totals, plan)),
+        RunAnswer::Refused(refusal) => Err(refusal),
+        RunAnswer::Ran(totals) => Ok(put_line(out, at, policy, totals, plan)),
     }
 }
 
@@ -77,31 +51,17 @@ fn put_betas(
     room: usize,
     slots: &[u32],
     values: &[u32],
-    nums: &[u32],
-    dens: &[u32],
+    betas: &[Beta],
     plan: u32,
-) -> Lined
-    requires dens_len { length dens.now ≡ length nums.now }
-    requires nums_in_bounds { at + 239 * length nums.now ≤ length out.old }
-    ensures { LinedIn out result at (lines_of room slots.now values.now plan (betas_of nums.now dens.now)) }
+) -> Result<usize, Refusal>
+    requires { at + 239 * length betas.now ≤ length out.old }
+    ensures { LinedIn out result at (lines_of room slots.now values.now plan (betas_of betas.now)) }
 {
     let mut end = at;
-    let mut i = 0;
-    while i < nums.len() {
-        let num = nums[i];
-        let den = dens[i];
-        let beta = Beta { num, den };
-        match put_policy(out, end, Policy::PG(beta), room, slots, values, plan) {
-            Lined::Refused(refusal) => {
-                return Lined::Refused(refusal);
-            }
-            Lined::At(next) => {
-                end = next;
-            }
-        }
-        i += 1;
+    for beta in betas {
+        end = put_policy(out, end, Policy::PG(*beta), room, slots, values, plan)?;
     }
-    Lined::At(end)
+    Ok(end)
 }
 
 // Writes the lines whose refusal refuses the table.
@@ -111,18 +71,14 @@ fn put_compared(
     room: usize,
     slots: &[u32],
     values: &[u32],
-    nums: &[u32],
-    dens: &[u32],
+    betas: &[Beta],
     plan: u32,
-) -> Lined
-    requires dens_len { length dens.now ≡ length nums.now }
-    requires nums_in_bounds { at + 239 + 239 * length nums.now ≤ length out.old }
-    ensures { LinedIn out result at (compared_of room slots.now values.now plan nums.now dens.now) }
+) -> Result<usize, Refusal>
+    requires { at + 239 + 239 * length betas.now ≤ length out.old }
+    ensures { LinedIn out result at (compared_of room slots.now values.now plan betas.now) }
 {
-    match put_policy(out, at, Policy::Greedy, room, slots, values, plan) {
-        Lined::Refused(refusal) => Lined::Refused(refusal),
-        Lined::At(next) => put_betas(out, next, room, slots, values, nums, dens, plan),
-    }
+    let next = put_policy(out, at, Policy::Greedy, room, slots, values, plan)?;
+    put_betas(out, next, room, slots, values, betas, plan)
 }
 
 // Writes the line of MF, with the trace's own lo and hi, unless it is refused.
@@ -146,21 +102,19 @@ fn table_with(
     room: usize,
     slots: &[u32],
     values: &[u32],
-    nums: &[u32],
-    dens: &[u32],
+    betas: &[Beta],
     plan: Totals,
     out: &mut [u8],
 ) -> usize
-    requires dens_len { length dens.now ≡ length nums.now }
-    requires nums_len_bound { length nums.now ≤ most_betas }
+    requires betas_len_bound { length betas.now ≤ most_betas }
     requires table_limit_in_bounds { table_limit ≤ length out.old }
-    ensures { BeginsIn out result (table_with room nums.now dens.now slots.now values.now plan) }
+    ensures { BeginsIn out result (table_with room betas.now slots.now values.now plan) }
 {
     let best = plan.sent.value;
     let at = put(out, 0, &HEADER);
-    match put_compared(out, at, room, slots, values, nums, dens, best) {
-        Lined::Refused(refusal) => refuse(out, refusal),
-        Lined::At(next) => {
+    match put_compared(out, at, room, slots, values, betas, best) {
+        Err(refusal) => refuse(out, refusal),
+        Ok(next) => {
             let end = put_mf(out, next, room, slots, values, best);
             put_line(out, end, Policy::Plan, plan, best)
         }
@@ -168,21 +122,13 @@ fn table_with(
 }
 
 // The table, or the first refusal: the plan's comes first. Behind a refusal stand the lines that were written before it.
-pub fn draft(
-    room: usize,
-    slots: &[u32],
-    values: &[u32],
-    nums: &[u32],
-    dens: &[u32],
-    out: &mut [u8],
-) -> usize
-    requires dens_len { length dens.now ≡ length nums.now }
-    requires nums_len_bound { length nums.now ≤ most_betas }
+pub fn draft(room: usize, slots: &[u32], values: &[u32], betas: &[Beta], out: &mut [u8]) -> usize
+    requires betas_len_bound { length betas.now ≤ most_betas }
     requires table_limit_in_bounds { table_limit ≤ length out.old }
-    ensures { BeginsIn out result (table_text room nums.now dens.now slots.now values.now) }
+    ensures { BeginsIn out result (table_text room betas.now slots.now values.now) }
 {
     match reply(Policy::Plan, room, slots, values) {
         RunAnswer::Refused(refusal) => refuse(out, refusal),
-        RunAnswer::Ran(totals) => table_with(room, slots, values, nums, dens, totals, out),
+        RunAnswer::Ran(totals) => table_with(room, slots, values, betas, totals, out),
     }
 }

@@ -1,36 +1,30 @@
 -- `lab_jobs::words::number_in` meets its contract: the number so far, of as many digits as bytes were read, and the bytes that are left.
 use mathlib.Core.Path.{refl}
 use native.Mathlib.Omega.{arith}
-use Rattle.lab_jobs.proofs.Wording.{below, number_none, number_long, below_most, counted_low, counted_high, counted_turn, counted_all}
+use Rattle.lab_jobs.proofs.Wording.{below, some_bytes, number_lengths, below_most, counted_low, counted_high, counted_turn, counted_all}
 use Rattle.lab_jobs.proofs.words.number_in.Goals as goal
+use Rattle.lab_jobs.proofs.words.number_in.Goals.{then-byte-lt-ZERO-via-then-byte-lt-ZERO, then-byte-lt-ZERO-via-else-byte-lt-ZERO+then-byte-gt-NINE}
 
-pub returns-then-bytes-lt1 : goal.returns-then-bytes-lt1
-returns-then-bytes-lt1 c = number_none c.args.bytes.now c.if-bytes-lt1.true
+pub returns-then-is_empty : goal.returns-then-is_empty
+returns-then-is_empty c = number_lengths c.args.bytes.now c.is_empty.ensures c.then-is_empty.either
 
-pub returns-then-bytes-gt-DIGITS : goal.returns-then-bytes-gt-DIGITS
-returns-then-bytes-gt-DIGITS c = number_long c.args.bytes.now c.if-bytes-gt-DIGITS.true
-
-pub loop-i-init : goal.loop-i-init
+pub loop-byte-init : goal.loop-byte-init
 unfolding below
-loop-i-init c = (omega arith, record { low = omega arith; value = refl; digits = refl })
+loop-byte-init c = record { low = omega arith; value = refl; digits = refl }
 
 pub returns-then-byte-lt-ZERO : goal.returns-then-byte-lt-ZERO
-returns-then-byte-lt-ZERO c = counted_low c.args.bytes.now c.loop-i.i c.loop-i.number (omega arith) c.loop-i.invariant.1 c.if-byte-lt-ZERO.true
-
-pub returns-then-byte-gt-NINE : goal.returns-then-byte-gt-NINE
-returns-then-byte-gt-NINE c = counted_high c.args.bytes.now c.loop-i.i c.loop-i.number (omega arith) c.loop-i.invariant.1 c.if-byte-gt-NINE.true
+returns-then-byte-lt-ZERO c = let bytes = c.args.bytes.now in
+    let l = c.loop-byte in
+    elim c.then-byte-lt-ZERO.branch [ then-byte-lt-ZERO-via-then-byte-lt-ZERO w ↦ counted_low bytes l.byte-index l.number c.loop-byte-test.true l.invariant w.if-byte-lt-ZERO.true | then-byte-lt-ZERO-via-else-byte-lt-ZERO+then-byte-gt-NINE w ↦ counted_high bytes l.byte-index l.number c.loop-byte-test.true l.invariant w.if-byte-gt-NINE.true ]
 
 pub overflow_mul-number : goal.overflow_mul-number
-overflow_mul-number c = omega (arith, below_most c.loop-i.i (omega arith), c.loop-i.invariant.1.low)
-
-pub overflow_cast-number : goal.overflow_cast-number
-overflow_cast-number c = omega (arith, c.shared_slice_known-1.given c.loop-i.i)
+overflow_mul-number c = omega (arith, below_most c.loop-byte.byte-index (omega arith), c.loop-byte.invariant.low)
 
 pub overflow_add-number : goal.overflow_add-number
-overflow_add-number c = omega (arith, below_most c.loop-i.i (omega arith), c.loop-i.invariant.1.low, c.shared_slice_known-1.given c.loop-i.i)
+overflow_add-number c = omega (arith, below_most c.loop-byte.byte-index (omega arith), c.loop-byte.invariant.low)
 
-pub loop-i-preserved : goal.loop-i-preserved
-loop-i-preserved c = (omega arith, counted_turn c.args.bytes.now c.loop-i.i c.loop-i.number (omega arith) c.loop-i.invariant.1 (omega arith) (omega arith))
+pub loop-byte-preserved : goal.loop-byte-preserved
+loop-byte-preserved c = counted_turn c.args.bytes.now c.loop-byte.byte-index c.loop-byte.number c.loop-byte-test.true c.loop-byte.invariant c.if-byte-lt-ZERO.false c.if-byte-gt-NINE.false
 
 pub returns : goal.returns
-returns c = counted_all c.args.bytes.now c.loop-i.i c.loop-i.number (omega arith) (omega arith) c.loop-i-test.false c.loop-i.invariant.1
+returns c = counted_all c.args.bytes.now c.loop-byte.byte-index c.loop-byte.number (some_bytes c.args.bytes.now c.is_empty.ensures c.if-is_empty.false) c.if-bytes-gt-DIGITS.false c.loop-byte-test.false c.loop-byte.invariant

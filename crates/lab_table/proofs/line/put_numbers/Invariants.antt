@@ -5,10 +5,6 @@ use Rattle.output.proofs.Writing.{Left}
 use Rattle.lab_table.specs.Line.{behind_commas}
 use Rattle.lab_table.proofs.line.put_numbers.Given as goal
 
-abbrev pub invariant-loop-i : goal.invariant-loop-i
-invariant-loop-i l = (l.i ≤ length l.numbers)
-    × (l.end + 21 * (length l.numbers - l.i) ≤ length l.out)
-    × Left l.at (behind_commas l.numbers) l.initial.out l.end (behind_commas (drop l.i l.numbers)) l.out
-
-abbrev pub decreases-loop-i : goal.decreases-loop-i
-decreases-loop-i l = length l.numbers - l.i
+abbrev pub invariant-loop-number : goal.invariant-loop-number
+invariant-loop-number l = (l.end + 21 * (length l.numbers - l.number-index) ≤ length l.out)
+    × Left l.at (behind_commas l.numbers) l.initial.out l.end (behind_commas (drop l.number-index l.numbers)) l.out

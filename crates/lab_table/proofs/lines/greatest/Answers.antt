@@ -1,18 +1,11 @@
--- `lab_table::lines::greatest` meets its contract: the greatest so far, and the values that are left.
-use Prim.Native.Nat.{max}
-use mathlib.Core.Path.{◌≡◌, refl}
-use native.Mathlib.Omega.{arith}
-use lib.ListN.{get_or}
-use Rattle.lab_table.proofs.Extremes.{greatest_turn, greatest_done}
+-- `lab_table::lines::greatest` meets its contract: the iterator yields the values.
+use Prim.Native.Nat.{ℕ}
+use mathlib.Core.Path.{sym, ap, ◌∙◌}
+use Rattle.std.proofs.Common.{Option, unwrap_or}
+use Rattle.std.proofs.lemmas.Iterator.{YieldsList-from_slice}
+use Rattle.std.proofs.lemmas.Iterator.Adapters.{option_map_id}
+use Rattle.std.proofs.lemmas.Iterator.Consumers.{YieldsList-from_copied, max_from_yields_List}
 use Rattle.lab_table.proofs.lines.greatest.Goals as goal
-use Rattle.lab_table.proofs.lines.greatest.Goals.{else-high-values, then-high-values}
-
-pub loop-i-init : goal.loop-i-init
-loop-i-init c = (omega arith, refl)
-
-pub loop-i-preserved : goal.loop-i-preserved
-loop-i-preserved c = let next : c.if-high-values.high ≡ max c.loop-i.high (get_or c.args.values.now c.loop-i.i 0) = elim c.if-high-values.branch [ then-high-values w ↦ omega arith | else-high-values w ↦ omega arith ] in
-    (omega arith, greatest_turn c.args.values.now c.loop-i.i c.loop-i.high c.if-high-values.high _ (omega arith) next c.loop-i.invariant.1)
 
 pub returns : goal.returns
-returns c = greatest_done c.args.values.now c.loop-i.i c.loop-i.high 0 _ c.loop-i-test.false c.loop-i.invariant.1
+returns c = c.unwrap_or.ensures ∙ ap (λ (o : Option ℕ). unwrap_or o 0) (sym (option_map_id c.max.result) ∙ max_from_yields_List _ _ c.max.ensures.ran (YieldsList-from_copied (YieldsList-from_slice c.args.values.now cc)))

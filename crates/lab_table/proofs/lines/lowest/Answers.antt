@@ -1,21 +1,11 @@
--- `lab_table::lines::lowest` meets its contract: the lowest so far, and the values that are left.
-use Prim.Native.Nat.{min}
-use mathlib.Core.Path.{◌≡◌}
-use native.Mathlib.Omega.{arith}
-use lib.ListN.{get_or}
-use Rattle.lab_table.proofs.Extremes.{lowest_none, lowest_first, lowest_turn, lowest_done}
+-- `lab_table::lines::lowest` meets its contract: the iterator yields the values.
+use Prim.Native.Nat.{ℕ}
+use mathlib.Core.Path.{sym, ap, ◌∙◌}
+use Rattle.std.proofs.Common.{Option, unwrap_or}
+use Rattle.std.proofs.lemmas.Iterator.{YieldsList-from_slice}
+use Rattle.std.proofs.lemmas.Iterator.Adapters.{option_map_id}
+use Rattle.std.proofs.lemmas.Iterator.Consumers.{YieldsList-from_copied, min_from_yields_List}
 use Rattle.lab_table.proofs.lines.lowest.Goals as goal
-use Rattle.lab_table.proofs.lines.lowest.Goals.{else-values-i, then-values-i}
-
-pub returns-then-values-eq0 : goal.returns-then-values-eq0
-returns-then-values-eq0 c = lowest_none c.args.values.now c.if-values-eq0.true
-
-pub loop-i-init : goal.loop-i-init
-loop-i-init c = (omega arith, lowest_first c.args.values.now c.if-values-eq0.false)
-
-pub loop-i-preserved : goal.loop-i-preserved
-loop-i-preserved c = let next : c.if-values-i.low ≡ min c.loop-i.low (get_or c.args.values.now c.loop-i.i 0) = elim c.if-values-i.branch [ then-values-i w ↦ omega arith | else-values-i w ↦ omega arith ] in
-    (omega arith, lowest_turn c.args.values.now c.loop-i.i c.loop-i.low c.if-values-i.low _ (omega arith) next c.loop-i.invariant.1)
 
 pub returns : goal.returns
-returns c = lowest_done c.args.values.now c.loop-i.i c.loop-i.low 0 _ c.loop-i-test.false c.loop-i.invariant.1
+returns c = c.unwrap_or.ensures ∙ ap (λ (o : Option ℕ). unwrap_or o 0) (sym (option_map_id c.min.result) ∙ min_from_yields_List _ _ c.min.ensures.ran (YieldsList-from_copied (YieldsList-from_slice c.args.values.now cc)))
