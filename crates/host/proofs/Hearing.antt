@@ -7,7 +7,8 @@ use native.Mathlib.Omega.{arith}
 use lib.ListN.{length, get_or, drop, drop_of_length-le}
 use lib.Seq.{drop-cons}
 use borrow.Author.Tests.{eq-eqb, ne_eqb}
-use Rattle.model.specs.declared.MakingAnswer.{MakingAnswer}
+use Rattle.std.specs.Prelude.{Result, ⊤}
+use Rattle.model.specs.declared.Refusal.{Refusal}
 use Rattle.model.specs.Answers.{PortReply, of_making}
 use Rattle.model.specs.Port.{PortState, PortOutcome, arrive_call, end_of_slot_call}
 use Rattle.host.specs.Live.{mixed, mixed_in, call_of, heard, heard_of, HeardBelow}
@@ -26,7 +27,7 @@ pub heard_below : HeardBelow
 heard_below port events = below port events (omega arith)
 
 -- a port that was made is fed, a refused making is coded
-module _ (answer : MakingAnswer) {port : PortState} {outcome : PortOutcome} {reply : PortReply} (events : List ℕ) {r : ℕ}
+module _ (answer : Result ⊤ Refusal) {port : PortState} {outcome : PortOutcome} {reply : PortReply} (events : List ℕ) {r : ℕ}
     (is : record { reply = of_making answer; port = port } ≡ outcome) (says : reply ≡ of_making answer) where
   pub of_made : reply.number ≡ 0 → r ≡ heard port 0 events → r ≡ heard_of outcome events
   unfolding heard_of

@@ -6,8 +6,10 @@ use mathlib.Core.List.{List}
 use lib.Dec.{leb}
 use borrow.Author.Tests.{eq-eqb, ne_eqb, le-leb, lt-leb}
 use Rattle.model.specs.declared.Fault.TheVariants as faults
-use Rattle.model.specs.declared.RunAnswer.{RunAnswer}
-use Rattle.model.specs.declared.AuditAnswer.{AuditAnswer}
+use Rattle.std.specs.Prelude.{Result}
+use Rattle.model.specs.declared.Totals.{Totals}
+use Rattle.model.specs.declared.Refusal.{Refusal}
+use Rattle.model.specs.declared.AuditError.{AuditError}
 use Rattle.model.specs.Limits.{within}
 use Rattle.model.specs.Record.{Lists}
 use Rattle.model.specs.Answers.{Reply, fault_number, of_run, of_audit}
@@ -41,11 +43,11 @@ pub replied : {reply answered : Reply} {before after : List ℕ} {code : ℕ} �
 replied is says = rw (← is) says
 
 -- a call's outcome, said
-pub said : (answer : RunAnswer) {outcome : Outcome} {left : Lists} {before after : List ℕ} {code : ℕ}
+pub said : (answer : Result Totals Refusal) {outcome : Outcome} {left : Lists} {before after : List ℕ} {code : ℕ}
     → record { reply = of_run answer; lists = left } ≡ outcome → SaidOfAudit (of_run answer) before code after
     → Said outcome before code left after
 said answer is says = rw (← is) (record { reply = says; lists = refl })
 
-pub said_of_audit : (answer : AuditAnswer) {reply : Reply} {before after : List ℕ} {code : ℕ}
+pub said_of_audit : (answer : Result Totals AuditError) {reply : Reply} {before after : List ℕ} {code : ℕ}
     → of_audit answer ≡ reply → SaidOfAudit (of_audit answer) before code after → SaidOfAudit reply before code after
 said_of_audit answer is says = rw (← is) says

@@ -4,7 +4,7 @@ ghost use Rattle.model.specs.Answers.{of_arrival, of_slot};
 ghost use Rattle.port.specs.State.{state_of};
 ghost use Rattle.host.specs.Live.{mixed_in, heard};
 
-use model::{ArrivalAnswer, PortReply, SlotAnswer};
+use model::{ArrivalAnswer, Packet, PortReply, Refusal};
 use port::Port;
 use replies::{of_arrival, of_slot};
 
@@ -22,14 +22,14 @@ fn mix(sum: u64, reply: PortReply) -> u64
         % 4_294_967_296
 }
 
-fn mix_arrival(sum: u64, answer: ArrivalAnswer) -> u64
+fn mix_arrival(sum: u64, answer: Result<ArrivalAnswer, Refusal>) -> u64
     requires { sum < 2 ^ 32 }
     ensures { result ≡ mixed_in sum (of_arrival answer) }
 {
     mix(sum, of_arrival(answer))
 }
 
-fn mix_slot(sum: u64, answer: SlotAnswer) -> u64
+fn mix_slot(sum: u64, answer: Result<Option<Packet>, Refusal>) -> u64
     requires { sum < 2 ^ 32 }
     ensures { result ≡ mixed_in sum (of_slot answer) }
 {

@@ -4,7 +4,7 @@ ghost use Rattle.model.specs.Answers.{of_run, of_audit};
 ghost use Rattle.host.specs.Said.{code_of, tallied, told, gives_totals, SaidOfAudit};
 
 use entry::put;
-use model::{AuditAnswer, Fault, Reply, RunAnswer, Tally, Totals};
+use model::{AuditError, Fault, Refusal, Reply, Tally, Totals};
 use replies::{of_audit, of_run};
 
 fn put_tally(list: &mut [u32], place: usize, tally: Tally)
@@ -42,11 +42,11 @@ fn gives_totals(number: u32) -> bool
     if number == 0 {
         return true;
     }
-    let first = Fault::FateOutside.number();
+    let first = u32::from(Fault::FateOutside);
     if number < first {
         return false;
     }
-    let last = Fault::OverRoom.number();
+    let last = u32::from(Fault::OverRoom);
     number <= last
 }
 
@@ -62,13 +62,13 @@ fn say(reply: Reply, totals: &mut [u32]) -> u64
     said
 }
 
-pub fn say_run(answer: RunAnswer, totals: &mut [u32]) -> u64
+pub fn say_run(answer: Result<Totals, Refusal>, totals: &mut [u32]) -> u64
     ensures { SaidOfAudit (of_run answer) totals.old result totals.new }
 {
     say(of_run(answer), totals)
 }
 
-pub fn say_audit(answer: AuditAnswer, totals: &mut [u32]) -> u64
+pub fn say_audit(answer: Result<Totals, AuditError>, totals: &mut [u32]) -> u64
     ensures { SaidOfAudit (of_audit answer) totals.old result totals.new }
 {
     say(of_audit(answer), totals)

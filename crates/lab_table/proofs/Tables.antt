@@ -14,8 +14,6 @@ use Rattle.std.proofs.Common.{Result, Ok, Err}
 use Rattle.model.specs.declared.Beta.{Beta}
 use Rattle.model.specs.declared.Refusal.{Refusal}
 use Rattle.model.specs.declared.Totals.{Totals}
-use Rattle.model.specs.declared.RunAnswer.{RunAnswer}
-use Rattle.model.specs.declared.RunAnswer.TheVariants.{Ran, Refused}
 use Rattle.model.specs.Numbers.{cause_number}
 use Rattle.model.specs.Answers.{Reply, of_run}
 use Rattle.trace.proofs.Laws.{cause_refuses}
@@ -43,23 +41,23 @@ pub begins_same : {n : ℕ} {text text' out : List ℕ} → text ≡ text' → B
 begins_same e B = record { inside = B.inside; is = B.is ∙ e }
 
 -- what an answer says of its reply
-module _ (answer : RunAnswer) (reply : Reply) (is : of_run answer ≡ reply) where
-  pub line_refused : (f : Refusal) → answer ≡ Refused f → (policy : Policy) (plan : ℕ) (more : Lines)
+module _ (answer : Result Totals Refusal) (reply : Reply) (is : of_run answer ≡ reply) where
+  pub line_refused : (f : Refusal) → answer ≡ Err f → (policy : Policy) (plan : ℕ) (more : Lines)
       → line_unless policy reply plan more ≡ Err (cause_number f.cause, f.place)
   line_refused f e policy plan more = rw (← is, e, cause_refuses f.cause) refl
 
-  pub line_ran : (t : Totals) → answer ≡ Ran t → (policy : Policy) (plan : ℕ) (more : Lines)
+  pub line_ran : (t : Totals) → answer ≡ Ok t → (policy : Policy) (plan : ℕ) (more : Lines)
       → line_unless policy reply plan more ≡ behind (line_of policy t plan) more
   line_ran t e policy plan more = rw (← is, e) refl
 
 module _ (room : ℕ) (slots values : List ℕ) (plan : ℕ) (policy : Policy) where
   -- a policy by itself
-  pub lined_refused : (answer : RunAnswer) (f : Refusal) (at : ℕ) (out out' : List ℕ) → answer ≡ Refused f → of_run answer ≡ reply_of policy room slots values
+  pub lined_refused : (answer : Result Totals Refusal) (f : Refusal) (at : ℕ) (out out' : List ℕ) → answer ≡ Err f → of_run answer ≡ reply_of policy room slots values
       → LinedAs (Err f) (lines_of room slots values plan (policy ∷ [])) at out out'
   unfolding lines_of
   lined_refused answer f at out out' e is = rw (line_refused answer (reply_of policy room slots values) is f e policy plan (Ok [])) (refl, refl)
 
-  pub lined_ran : (answer : RunAnswer) (t : Totals) {at next : ℕ} {out out' : List ℕ} → answer ≡ Ran t → of_run answer ≡ reply_of policy room slots values
+  pub lined_ran : (answer : Result Totals Refusal) (t : Totals) {at next : ℕ} {out out' : List ℕ} → answer ≡ Ok t → of_run answer ≡ reply_of policy room slots values
       → Wrote at (line_of policy t plan) out next out' → LinedAs (Ok next) (lines_of room slots values plan (policy ∷ [])) at out out'
   unfolding lines_of
   lined_ran answer t e is W =
@@ -171,7 +169,7 @@ module _ (room : ℕ) (slots values : List ℕ) (plan : ℕ) (betas : List Beta)
   betas_end done at out fits = rw (drop_of_length-le betas done) (lined_none room slots values plan at out fits)
 
 -- MF's line
-module _ (room : ℕ) (slots values : List ℕ) (plan lo hi : ℕ) (l : lo ≡ lowest values) (h : hi ≡ greatest values) (answer : RunAnswer)
+module _ (room : ℕ) (slots values : List ℕ) (plan lo hi : ℕ) (l : lo ≡ lowest values) (h : hi ≡ greatest values) (answer : Result Totals Refusal)
     (is : of_run answer ≡ reply_of (MF (record { lo = lo; hi = hi; r = 1 })) room slots values) where
   abbrev own : Policy
   own = MF (record { lo = lo; hi = hi; r = 1 })
@@ -188,12 +186,12 @@ module _ (room : ℕ) (slots values : List ℕ) (plan lo hi : ℕ) (l : lo ≡ l
       l
       h
 
-  pub mf_none : (f : Refusal) → answer ≡ Refused f → (at : ℕ) (out : List ℕ) → at ≤ length out → Wrote at (mf_line room slots values plan) out at out
+  pub mf_none : (f : Refusal) → answer ≡ Err f → (at : ℕ) (out : List ℕ) → at ≤ length out → Wrote at (mf_line room slots values plan) out at out
   mf_none f e at out fits =
       let none : [] ≡ mf_line room slots values plan = sym (rw (e, cause_refuses f.cause) refl) ∙ mf_is in
       wrote_same none refl (record { inside = omega arith; written = refl; behind = omega arith })
 
-  pub mf_some : (t : Totals) → answer ≡ Ran t → {at next : ℕ} {out out' : List ℕ} → Wrote at (line_of own t plan) out next out'
+  pub mf_some : (t : Totals) → answer ≡ Ok t → {at next : ℕ} {out out' : List ℕ} → Wrote at (line_of own t plan) out next out'
       → Wrote at (mf_line room slots values plan) out next out'
   mf_some t e W = wrote_same (sym (rw e refl) ∙ mf_is) refl W
 
@@ -239,15 +237,15 @@ module _ (room : ℕ) (betas : List Beta) (slots values : List ℕ) (plan : Tota
       omega arith
 
 -- the plan's answer
-module _ (room : ℕ) (betas : List Beta) (slots values : List ℕ) (answer : RunAnswer) (is : of_run answer ≡ reply_of Plan room slots values) where
+module _ (room : ℕ) (betas : List Beta) (slots values : List ℕ) (answer : Result Totals Refusal) (is : of_run answer ≡ reply_of Plan room slots values) where
   text_is : cond (eqb (of_run answer).number 0) (table_with room betas slots values (of_run answer).totals) (refusal_text (of_run answer).number (of_run answer).place)
       ≡ table_text room betas slots values
   unfolding table_text
   text_is =
       ap (λ (plan : Reply). cond (eqb plan.number 0) (table_with room betas slots values plan.totals) (refusal_text plan.number plan.place)) is
 
-  pub text_refused : (f : Refusal) → answer ≡ Refused f → refusal_text (cause_number f.cause) f.place ≡ table_text room betas slots values
+  pub text_refused : (f : Refusal) → answer ≡ Err f → refusal_text (cause_number f.cause) f.place ≡ table_text room betas slots values
   text_refused f e = sym (rw (e, cause_refuses f.cause) refl) ∙ text_is
 
-  pub text_ran : (t : Totals) → answer ≡ Ran t → table_with room betas slots values t ≡ table_text room betas slots values
+  pub text_ran : (t : Totals) → answer ≡ Ok t → table_with room betas slots values t ≡ table_text room betas slots values
   text_ran t e = sym (rw e refl) ∙ text_is

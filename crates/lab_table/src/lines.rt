@@ -6,7 +6,7 @@ ghost use Rattle.lab_table.specs.Writing.{BeginsIn, LinedIn};
 
 use crate::line::put_line;
 use crate::refusal::refuse;
-use model::{Beta, Marking, Refusal, RunAnswer, Totals};
+use model::{Beta, Marking, Refusal, Totals};
 use output::put;
 use runs::{Policy, reply};
 
@@ -38,10 +38,8 @@ fn put_policy(
     requires { at + 239 ≤ length out.old }
     ensures { LinedIn out result at (lines_of room slots.now values.now plan (policy ∷ [])) }
 {
-    match reply(policy, room, slots, values) {
-        RunAnswer::Refused(refusal) => Err(refusal),
-        RunAnswer::Ran(totals) => Ok(put_line(out, at, policy, totals, plan)),
-    }
+    let totals = reply(policy, room, slots, values)?;
+    Ok(put_line(out, at, policy, totals, plan))
 }
 
 // Writes the lines of PG with each beta.
@@ -92,8 +90,8 @@ fn put_mf(out: &mut [u8], at: usize, room: usize, slots: &[u32], values: &[u32],
         r: 1,
     });
     match reply(policy, room, slots, values) {
-        RunAnswer::Refused(_) => at,
-        RunAnswer::Ran(totals) => put_line(out, at, policy, totals, plan),
+        Err(_) => at,
+        Ok(totals) => put_line(out, at, policy, totals, plan),
     }
 }
 
@@ -128,7 +126,7 @@ pub fn draft(room: usize, slots: &[u32], values: &[u32], betas: &[Beta], out: &m
     ensures { BeginsIn out result (table_text room betas.now slots.now values.now) }
 {
     match reply(Policy::Plan, room, slots, values) {
-        RunAnswer::Refused(refusal) => refuse(out, refusal),
-        RunAnswer::Ran(totals) => table_with(room, slots, values, betas, totals, out),
+        Err(refusal) => refuse(out, refusal),
+        Ok(totals) => table_with(room, slots, values, betas, totals, out),
     }
 }

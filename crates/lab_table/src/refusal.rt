@@ -11,6 +11,5 @@ pub fn refuse(out: &mut [u8], refusal: Refusal) -> usize
     requires { 59 ≤ length out.old }
     ensures { WroteIn out result 0 (refusal_text (cause_number refusal.cause) refusal.place) }
 {
-    let cause = refusal.cause;
-    put_refusal(out, cause.number() as u64, refusal.place as u64)
+    put_refusal(out, u32::from(refusal.cause) as u64, refusal.place as u64)
 }

@@ -7,4 +7,4 @@ use Rattle.output.proofs.Writing.{wrote_same}
 use Rattle.lab_table.proofs.refusal.refuse.Goals as goal
 
 pub returns : goal.returns
-returns c = wrote_same (ap (λ (n : ℕ). refusal_text n c.args.refusal.place) c.number.ensures) refl (c.put_refusal.ensures.fits (omega arith))
+returns c = wrote_same (ap (λ (n : ℕ). refusal_text n c.args.refusal.place) c.from.ensures) refl (c.put_refusal.ensures.fits (omega arith))
