@@ -15,20 +15,14 @@ use steps::Window;
 fn takes_mark(marks: &[u32], p: Packet, lo: u32) -> bool
     ensures { result ≡ (eqb p.value lo && not (is_marked marks.now p)) }
 {
-    if p.value != lo {
-        return false;
-    }
-    mark_of(marks, p).0 == 0
+    p.value == lo && mark_of(marks, p).0 == 0
 }
 
 // A hi packet that arrived in this slot.
 fn gives_marks(slots: &[u32], p: Packet, hi: u32, slot: Slot) -> bool
     ensures { result ≡ (eqb p.value hi && eqb (slot_of slots.now p.number).0 slot.0) }
 {
-    if p.value != hi {
-        return false;
-    }
-    slot_of(slots, p.number).0 == slot.0
+    p.value == hi && slot_of(slots, p.number).0 == slot.0
 }
 
 // Marks up to r unmarked lo packets of the first n from `head` on, stepping down from the newest of them.
@@ -45,11 +39,12 @@ fn mark_down(
     requires { Within (record { head = head; tail = head + n }) numbers.now values.now }
     ensures { left marks ≡ mark_down lo r by (older_than numbers.now values.now head n) (was marks) }
 {
-    let mut i = n;
     let mut left = r;
-    while 0 < i && 0 < left {
-        let k = head + (i - 1);
-        i -= 1;
+    for i in (0..n).rev() {
+        if left == 0 {
+            return;
+        }
+        let k = head + i;
         let number = numbers[k];
         let value = values[k];
         let p = Packet {
@@ -96,14 +91,7 @@ fn positions(w: Window, room: usize) -> usize
     requires { w.head ≤ w.tail }
     ensures { result ≡ min (room - 1) (w.tail - w.head) }
 {
-    let held = w.tail - w.head;
-    if held < room {
-        return held;
-    }
-    if room < 1 {
-        return 0;
-    }
-    room - 1
+    room.saturating_sub(1).min(w.tail - w.head)
 }
 
 // The marks after a slot's arrivals: each hi packet among the first room - 1 that arrived in this slot marks.
@@ -122,9 +110,7 @@ pub fn mark(
 {
     let head = w.head;
     let n = positions(w, room);
-    let mut i = 0;
-    while i < n {
+    for i in 0..n {
         mark_by(numbers, values, slots, marks, head, i, marking, slot);
-        i += 1;
     }
 }

@@ -25,16 +25,11 @@ pub struct Window {
 pub const PLACES: usize = 2 * ROOM;
 
 // Whether a window lies within its two lists, which are equally long.
+#[tactic(auto, unfolding(crate::specs::Guarded::lies_within))]
 pub fn lies_within(numbers: &[u32], values: &[u32], w: Window) -> bool
     ensures { result ≡ lies_within w numbers.now values.now }
 {
-    if w.tail < w.head {
-        return false;
-    }
-    if values.len() < w.tail {
-        return false;
-    }
-    numbers.len() == values.len()
+    w.head <= w.tail && w.tail <= values.len() && numbers.len() == values.len()
 }
 
 // What the end of a slot answers: the oldest packet, or none, which is idle; none too where the window does not lie within its lists.
@@ -65,8 +60,7 @@ pub fn send_until(
     }
     let mut head = w.head;
     let tail = w.tail;
-    let mut slot = from.0;
-    while slot < until.0 {
+    for slot in from.0..until.0 {
         let Some(p) = held::oldest(numbers, values, head, tail) else {
             return Window { head, tail };
         };
@@ -80,7 +74,6 @@ pub fn send_until(
             PacketNumber(0),
         );
         head += 1;
-        slot += 1;
     }
     Window { head, tail }
 }

@@ -1,5 +1,4 @@
--- The test of the window decides what is left. The invariant: the sendings still to come complete what all of them do. Each turn ends one slot, so the slots
--- left are the measure.
+-- The test of the window decides what is left. The invariant: the sendings still to come complete what all of them do. Each turn ends one slot.
 use mathlib.Core.Path.{refl, sym, ◌∙◌}
 use native.Mathlib.Omega.{arith}
 use borrow.Author.Tests.{not-true, not-false}
@@ -17,7 +16,7 @@ returns-then-not-lies_within c = let a = c.args in
 pub loop-slot-init : goal.loop-slot-init
 loop-slot-init c = let a = c.args in
     let lies = sym c.lies_within.ensures ∙ not-false _ c.if-not-lies_within.false-raw in
-    (refl, refl, refl, left_all a.numbers.now a.values.now a.w.tail a.until.0 a.w.head a.from.0 (lists_of a.fates.now a.whens.now a.bys.now) (lies_within_lem a.w a.numbers.now a.values.now lies))
+    left_all a.numbers.now a.values.now a.w.tail a.until.0 a.w.head a.from.0 (lists_of a.fates.now a.whens.now a.bys.now) (lies_within_lem a.w a.numbers.now a.values.now lies)
 
 pub returns-in_default : goal.returns-in_default
 returns-in_default c = let loop = c in
@@ -26,7 +25,7 @@ returns-in_default c = let loop = c in
     let now = lists_of loop.loop-slot.fates loop.loop-slot.whens loop.loop-slot.bys in
     sendings_kept a.w a.numbers.now a.values.now a.from a.until first (window loop.loop-slot.head a.w.tail) now
     (sym c.lies_within.ensures ∙ not-false _ c.if-not-lies_within.false-raw)
-    (left_idle a.numbers.now a.values.now a.w.tail a.until.0 a.w.head a.from.0 first loop.loop-slot.head loop.loop-slot.slot now loop.loop-slot.invariant.3
+    (left_idle a.numbers.now a.values.now a.w.tail a.until.0 a.w.head a.from.0 first loop.loop-slot.head loop.loop-slot.slot now loop.loop-slot.invariant
     (λ p e. c.in_default.not-Some p (c.oldest.ensures ∙ e)))
     refl
 
@@ -38,9 +37,9 @@ loop-slot-preserved c = let enter = c.enter in
     let now = lists_of loop.loop-slot.fates loop.loop-slot.whens loop.loop-slot.bys in
     let sent = sym c.oldest.ensures ∙ c.in-Some.is in
     let turn =
-    left_turn a.numbers.now a.values.now a.w.tail a.until.0 a.w.head a.from.0 first loop.loop-slot.head loop.loop-slot.slot now loop.loop-slot.invariant.3
+    left_turn a.numbers.now a.values.now a.w.tail a.until.0 a.w.head a.from.0 first loop.loop-slot.head loop.loop-slot.slot now loop.loop-slot.invariant
     c.in-Some.p (lists_of enter.new.fates enter.new.whens enter.new.bys) c.loop-slot-test.true sent enter.ensures in
-    (enter.auto.fates ∙ loop.loop-slot.invariant.0, enter.auto.whens ∙ loop.loop-slot.invariant.1, enter.auto.bys ∙ loop.loop-slot.invariant.2, turn.1)
+    turn.1
 
 pub returns : goal.returns
 returns c = let loop = c in
@@ -49,5 +48,5 @@ returns c = let loop = c in
     let now = lists_of loop.loop-slot.fates loop.loop-slot.whens loop.loop-slot.bys in
     sendings_kept a.w a.numbers.now a.values.now a.from a.until first (window loop.loop-slot.head a.w.tail) now
     (sym c.lies_within.ensures ∙ not-false _ c.if-not-lies_within.false-raw)
-    (left_none a.numbers.now a.values.now a.w.tail a.until.0 a.w.head a.from.0 first loop.loop-slot.head loop.loop-slot.slot now loop.loop-slot.invariant.3 (omega arith))
+    (left_none a.numbers.now a.values.now a.w.tail a.until.0 a.w.head a.from.0 first loop.loop-slot.head loop.loop-slot.slot now loop.loop-slot.invariant (omega arith))
     refl

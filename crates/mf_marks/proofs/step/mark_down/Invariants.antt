@@ -4,6 +4,3 @@ use Rattle.mf_marks.proofs.step.mark_down.Given as goal
 
 abbrev pub invariant-loop-i : goal.invariant-loop-i
 invariant-loop-i l = Down l.numbers l.values l.head l.n l.lo l.r l.by l.initial.marks l.i l.left l.marks
-
-abbrev pub decreases-loop-i : goal.decreases-loop-i
-decreases-loop-i l = l.i
