@@ -37,10 +37,6 @@ module _ (policy : Policy) (room : ℕ) (slots values : List ℕ) (lists : Lists
   reply_is : (call_of policy room slots values lists).reply ≡ reply
   reply_is = ap (λ (o : Outcome). o.reply) (sym is) ∙ sym replies
 
-  pub call_refused : (reply.number ≡ 0 → ⊥) → refusal_text reply.number reply.place ≡ called_text policy room slots values lists
-  call_refused some =
-      refused_said slots values (call_of policy room slots values lists) (ap (λ (r : Reply). r.number) reply_is) (ap (λ (r : Reply). r.place) reply_is) some
-
   pub call_ran : reply.number ≡ 0 → record_header ++ cr ∷ lf ∷ row_lines (rows (arrivals slots values) after) ≡ called_text policy room slots values lists
   call_ran zero =
       ran_said slots values (call_of policy room slots values lists) after (ap (λ (r : Reply). r.number) reply_is ∙ zero) (ap (λ (o : Outcome). o.lists) (sym is))

@@ -15,8 +15,9 @@ use Rattle.model.specs.Answers.{cause_number}
 use Rattle.model.specs.Totals.{no_totals}
 use Rattle.signs.specs.Signs.{trace_header}
 use Rattle.field.specs.Fields.{fields_of}
-use Rattle.rows.specs.declared.Rows.{Rows}
-use Rattle.rows.specs.declared.Rows.TheVariants.{TooMany, Read}
+use Rattle.std.specs.Prelude.{Result, Ok, Err}
+use Rattle.rows.specs.declared.RowsError.{RowsError}
+use Rattle.rows.specs.declared.RowsError.TheVariants.{TooMany}
 use Rattle.rows.specs.Input.{Input, malformed, rows, column_of, input_of}
 use Rattle.rows.specs.Whole.{Stands}
 use Rattle.rows.specs.Whole as read
@@ -44,7 +45,7 @@ unfolding output_by
 says_input (malformed line) table stands = refl
 says_input (rows all) table stands = go (ltb 2048 (length all)) refl
   where
-    go : (t : Bool) → ltb 2048 (length all) ≡ t → says_of (cond t TooMany (Read (length all))) table ≡ trace_output (column_of 0 all) (column_of 1 all)
+    go : (t : Bool) → ltb 2048 (length all) ≡ t → says_of (cond t (Err TooMany) (Ok (length all))) table ≡ trace_output (column_of 0 all) (column_of 1 all)
     go true e =
         let slots = column_length 0 all in
         let values = column_length 1 all in
@@ -59,5 +60,5 @@ whole text read table tells size out long r out' A =
     ap (take r) A.written
     ∙ take_at (spoken read table out) (drop r out) r (sym A.count)
     ∙ says_all read table out size long
-    ∙ ap (λ (said : Rows). says_of said table) tells.says
+    ∙ ap (λ (said : Result ℕ RowsError). says_of said table) tells.says
     ∙ says_input (input_of trace_header text) table tells.stands

@@ -11,21 +11,19 @@ ghost use Rattle.text.specs.Run.{called_text, run_spoken};
 ghost use Rattle.text.specs.Says.{Answered};
 
 use model::{Beta, Cause, Record};
-use output::{OUTPUT, put, put_refusal, put_rows};
+use output::{OUTPUT, RecordRows, put, put_refusal, put_rows};
 use replies::of_run;
-use rows::Rows;
+use rows::RowsError;
 use runs::{Policy, call, too_many};
 use signs::{LINE_END, RECORD};
 
 // The table that the bench program reads: a column of slots and a column of values.
 pub const TABLE: usize = 2 * Record::PACKETS;
 
-// What the bench program runs: PG with this room and beta num / den.
+// What the bench program runs: PG with this room and this beta.
 const ROOM: usize = 2;
 
-const NUM: u32 = 9;
-
-const DEN: u32 = 1;
+const BETA: Beta = Beta { num: 9, den: 1 };
 
 // What a policy says of a trace, with its record in three lent lists.
 fn say(
@@ -48,7 +46,14 @@ fn say(
     }
     let header = put(out, 0, &RECORD);
     let at = put(out, header, &LINE_END);
-    put_rows(out, at, slots, values, fates, whens, bys)
+    let rows = RecordRows {
+        slots,
+        values,
+        fates,
+        whens,
+        bys,
+    };
+    put_rows(out, at, rows)
 }
 
 // What a policy says of a trace. Nothing is written where the list is too short for the longest answer.
@@ -79,26 +84,28 @@ pub fn run(policy: Policy, room: usize, slots: &[u32], values: &[u32], out: &mut
 }
 
 // What the bench program says of what was read, and how many bytes that is. Nothing is written where a list is not as long as it has to be.
-pub fn answer(read: Rows, table: &[u32], out: &mut [u8]) -> usize
+pub fn answer(read: Result<usize, RowsError>, table: &[u32], out: &mut [u8]) -> usize
     ensures { Answered read table.now (was out) result (left out) }
 {
-    if table.len() != TABLE {
-        return 0;
-    }
-    if out.len() < OUTPUT {
+    if table.len() != TABLE || out.len() < OUTPUT {
         return 0;
     }
     match read {
-        Rows::Malformed(line) => put_refusal(out, Cause::Text.number() as u64, line),
-        Rows::TooMany => put_refusal(out, Cause::Packets.number() as u64, 0),
-        Rows::Read(count) => {
+        Err(RowsError::Malformed(line)) => put_refusal(out, Cause::Text.number() as u64, line),
+        Err(RowsError::TooMany) => put_refusal(out, Cause::Packets.number() as u64, 0),
+        Ok(count) => {
             let many = Record::PACKETS < count;
             if many {
                 return put_refusal(out, Cause::Packets.number() as u64, 0);
             }
-            let end = Record::PACKETS + count;
-            let pg = Policy::PG(Beta { num: NUM, den: DEN });
-            run(pg, ROOM, &table[..count], &table[Record::PACKETS..end], out)
+            let (slots, values) = table.split_at(Record::PACKETS);
+            run(
+                Policy::PG(BETA),
+                ROOM,
+                &slots[..count],
+                &values[..count],
+                out,
+            )
         }
     }
 }

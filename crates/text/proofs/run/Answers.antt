@@ -1,8 +1,7 @@
 -- `text::run` meets its contract: nothing in a list that is too short; a trace that has too many packets is refused as every call does; else the lists that
 -- it lends are blank.
-use mathlib.Core.Path.{refl, sym, ◌∙◌}
+use mathlib.Core.Path.{refl, ◌∙◌}
 use native.Mathlib.Omega.{arith}
-use Rattle.runs.proofs.Calls.{zeros_length}
 use Rattle.output.proofs.Writing.{wrote_same}
 use Rattle.text.proofs.Policies.{blank_said, over_said, spoken_none, spoken_all}
 use Rattle.text.proofs.run.Goals as goal
@@ -16,18 +15,6 @@ returns-then-n-gt-PACKETS c = let a = c.args in
     let said = over_said a.policy a.room a.slots.now a.values.now c.if-n-gt-PACKETS.true (c.of_run-reply.ensures ∙ c.too_many.ensures) in
     let spoken = spoken_all a.policy a.room a.slots.now a.values.now a.out.now c.if-out-lt-OUTPUT.false in
     wrote_same (said ∙ spoken) refl (c.put_refusal.ensures.fits (omega (arith, c.if-out-lt-OUTPUT.false)))
-
-pub slice_bounds-say-end : goal.slice_bounds-say-end
-slice_bounds-say-end c = sym (zeros_length _ 2048 c.if-n-gt-PACKETS.false)
-
-pub slice_bounds-say-end-2 : goal.slice_bounds-say-end-2
-slice_bounds-say-end-2 c = sym (zeros_length _ 2048 c.if-n-gt-PACKETS.false)
-
-pub slice_bounds-say-end-3 : goal.slice_bounds-say-end-3
-slice_bounds-say-end-3 c = sym (zeros_length _ 2048 c.if-n-gt-PACKETS.false)
-
-pub say-requires : goal.say-requires
-say-requires c = record { slots_len_bound = c.if-n-gt-PACKETS.false; output_limit_in_bounds = c.if-out-lt-OUTPUT.false }
 
 pub returns : goal.returns
 returns c = let a = c.args in

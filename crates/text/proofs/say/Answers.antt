@@ -4,16 +4,8 @@ use mathlib.Core.Path.{refl}
 use native.Mathlib.Omega.{arith}
 use Rattle.output.proofs.Putting.{same_kept, put_rows_behind}
 use Rattle.output.proofs.Writing.{wrote_same}
-use Rattle.text.proofs.Policies.{call_refused, call_ran, call_same}
+use Rattle.text.proofs.Policies.{call_ran, call_same}
 use Rattle.text.proofs.say.Goals as goal
-
-pub shape_of-fates-then-reply-ne0 : goal.shape_of-fates-then-reply-ne0
-shape_of-fates-then-reply-ne0 c = c.call.auto.fates
-
-pub returns-then-reply-ne0 : goal.returns-then-reply-ne0
-returns-then-reply-ne0 c = let start = c in
-    let a = start.args in
-    wrote_same (call_refused a.policy a.room a.slots.now a.values.now _ c.call.result c.call.ensures c.of_run-reply.ensures c.if-reply-ne0.true) refl (c.put_refusal.ensures.fits (omega (arith, start.requires.output_limit_in_bounds)))
 
 pub returns : goal.returns
 returns c = let start = c in
