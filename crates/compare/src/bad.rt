@@ -37,41 +37,27 @@ fn lengthen(case: Case, lists: &mut Lists) -> Case {
 // Kinds 3 to 7: the length of a list, of which 3 and 4 set the entry past the n-th.
 fn spoil_length(source: &mut Source, kind: u32, case: Case, lists: &mut Lists) -> Lengths {
     let past = case.n as usize;
-    let lengths = case.lengths;
     let length = if source.draw(2) == 0 {
         case.n.saturating_add(1)
     } else {
         case.n.saturating_sub(1)
     };
+    let mut lengths = case.lengths;
     match kind {
         3 => {
             put(&mut lists.slots, past, 1_000_000);
-            Lengths {
-                slots: length,
-                ..lengths
-            }
+            lengths.slots = length;
         }
         4 => {
             put(&mut lists.values, past, 1);
             put(&mut lists.mf_values, past, 1);
-            Lengths {
-                values: length,
-                ..lengths
-            }
+            lengths.values = length;
         }
-        5 => Lengths {
-            fates: length,
-            ..lengths
-        },
-        6 => Lengths {
-            whens: length,
-            ..lengths
-        },
-        _ => Lengths {
-            bys: length,
-            ..lengths
-        },
+        5 => lengths.fates = length,
+        6 => lengths.whens = length,
+        _ => lengths.bys = length,
     }
+    lengths
 }
 
 // Kinds 8 to 13, of a case and of a port made by hand.
