@@ -9,7 +9,6 @@ ghost use Rattle.lab_table.specs.Table.{table_spoken};
 
 mod line;
 mod lines;
-mod refusal;
 
 use lines::draft;
 use model::{Beta, Totals};

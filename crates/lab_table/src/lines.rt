@@ -5,9 +5,8 @@ ghost use Rattle.lab_table.specs.Table.{most_betas, table_limit, lowest, greates
 ghost use Rattle.lab_table.specs.Writing.{BeginsIn, LinedIn};
 
 use crate::line::put_line;
-use crate::refusal::refuse;
 use model::{Beta, Marking, Refusal, Totals};
-use output::put;
+use output::{put, refuse};
 use runs::{Policy, reply};
 
 const HEADER: [u8; 75] =

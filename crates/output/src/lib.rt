@@ -3,12 +3,13 @@
 #![tactic(auto)]
 
 ghost use Rattle.std.specs.Prelude.{◌+◌, ◌*◌, ◌≤◌, ◌↔◌, IsTrue, length};
+ghost use Rattle.model.specs.Numbers.{cause_number};
 ghost use Rattle.output.specs.Output.{decimal, line_with, refusal_text};
 ghost use Rattle.output.specs.Writing.{PutIn, lists_in, rows_text};
 
 mod write;
 
-use model::Record;
+use model::{Record, Refusal};
 pub use write::RecordRows;
 use write::{write_bytes, write_line, write_number, write_rows};
 
@@ -75,6 +76,14 @@ pub fn put_refusal(out: &mut [u8], number: u64, place: u64) -> usize
         return write_line(out, at, &[number, place]);
     }
     0
+}
+
+// Writes a call's refusal, from the start of the list on.
+pub fn refuse(out: &mut [u8], refusal: Refusal) -> usize
+    ensures { PutIn out result 59 0 (refusal_text (cause_number refusal.cause) refusal.place) }
+{
+    let cause = u32::from(refusal.cause);
+    put_refusal(out, cause as u64, refusal.place as u64)
 }
 
 // Writes a record's rows. Lists that differ in length are no record: then it writes nothing.

@@ -38,20 +38,16 @@ pub fn call(
     }
 }
 
-// The answer to a trace that has more packets than a record has places, whatever the policy.
-pub fn too_many(packets: usize, values: usize) -> Result<Totals, Refusal>
-    ensures { of_run result ≡ too_many packets values }
+// The refusal of a trace that has more packets than a record has places, whatever the policy.
+pub fn too_many(packets: usize, values: usize) -> Refusal
+    ensures { of_run (Err result) ≡ too_many packets values }
 {
-    if values != packets {
-        return Err(Refusal {
-            cause: Cause::Lengths,
-            place: 0,
-        });
-    }
-    Err(Refusal {
-        cause: Cause::Packets,
-        place: 0,
-    })
+    let cause = if values == packets {
+        Cause::Packets
+    } else {
+        Cause::Lengths
+    };
+    Refusal { cause, place: 0 }
 }
 
 // What a policy's run on a trace answers; the record is dropped.
@@ -60,7 +56,7 @@ pub fn reply(policy: Policy, room: usize, slots: &[u32], values: &[u32]) -> Resu
 {
     let n = slots.len();
     if Record::PACKETS < n {
-        return too_many(n, values.len());
+        return Err(too_many(n, values.len()));
     }
     let mut fates = [0u32; Record::PACKETS];
     let mut whens = [0u32; Record::PACKETS];

@@ -12,7 +12,6 @@ use borrow.Author.Tests.{ltb-true, ltb-false, eq-eqb}
 use Rattle.model.specs.declared.Cause.TheVariants.{Packets}
 use Rattle.model.specs.Limits.{record_limits}
 use Rattle.model.specs.Answers.{cause_number}
-use Rattle.model.specs.Totals.{no_totals}
 use Rattle.signs.specs.Signs.{trace_header}
 use Rattle.field.specs.Fields.{fields_of}
 use Rattle.std.specs.Prelude.{Result, Ok, Err}
@@ -34,7 +33,7 @@ too_many_lem : (slots values : List ℕ) → length values ≡ length slots → 
     → trace_output slots values ≡ refusal_text (cause_number Packets) 0
 unfolding trace_output
 too_many_lem slots values same many =
-    sym (over_said (PG bench_beta) bench_room slots values many {reply = record { number = cause_number Packets; place = 0; totals = no_totals }}
+    sym (over_said (PG bench_beta) bench_room slots values many (record { cause = Packets; place = 0 })
     (rw (eq-eqb (length values) (length slots) same) refl))
 
 column_length : (j : ℕ) (all : List (List ℕ)) → length (column_of j all) ≡ length all

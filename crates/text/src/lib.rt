@@ -11,8 +11,7 @@ ghost use Rattle.text.specs.Run.{called_text, run_spoken};
 ghost use Rattle.text.specs.Says.{Answered};
 
 use model::{Beta, Cause, Record};
-use output::{OUTPUT, RecordRows, put, put_refusal, put_rows};
-use replies::of_run;
+use output::{OUTPUT, RecordRows, put, put_refusal, put_rows, refuse};
 use rows::RowsError;
 use runs::{Policy, call, too_many};
 use signs::{LINE_END, RECORD};
@@ -40,9 +39,8 @@ fn say(
     requires output_limit_in_bounds { output_limit ≤ length out.old }
     ensures { WroteIn out result 0 (called_text policy room slots.now values.now (lists_before fates whens bys)) }
 {
-    let reply = of_run(call(policy, room, slots, values, fates, whens, bys));
-    if reply.number != 0 {
-        return put_refusal(out, reply.number as u64, reply.place as u64);
+    if let Err(refusal) = call(policy, room, slots, values, fates, whens, bys) {
+        return refuse(out, refusal);
     }
     let header = put(out, 0, &RECORD);
     let at = put(out, header, &LINE_END);
@@ -65,8 +63,7 @@ pub fn run(policy: Policy, room: usize, slots: &[u32], values: &[u32], out: &mut
     }
     let n = slots.len();
     if Record::PACKETS < n {
-        let reply = of_run(too_many(n, values.len()));
-        return put_refusal(out, reply.number as u64, reply.place as u64);
+        return refuse(out, too_many(n, values.len()));
     }
     let mut fates = [0u32; Record::PACKETS];
     let mut whens = [0u32; Record::PACKETS];
@@ -91,12 +88,12 @@ pub fn answer(read: Result<usize, RowsError>, table: &[u32], out: &mut [u8]) -> 
         return 0;
     }
     match read {
-        Err(RowsError::Malformed(line)) => put_refusal(out, Cause::Text.number() as u64, line),
-        Err(RowsError::TooMany) => put_refusal(out, Cause::Packets.number() as u64, 0),
+        Err(RowsError::Malformed(line)) => put_refusal(out, u32::from(Cause::Text) as u64, line),
+        Err(RowsError::TooMany) => put_refusal(out, u32::from(Cause::Packets) as u64, 0),
         Ok(count) => {
             let many = Record::PACKETS < count;
             if many {
-                return put_refusal(out, Cause::Packets.number() as u64, 0);
+                return put_refusal(out, u32::from(Cause::Packets) as u64, 0);
             }
             let (slots, values) = table.split_at(Record::PACKETS);
             run(

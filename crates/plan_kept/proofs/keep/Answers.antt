@@ -1,5 +1,5 @@
 -- The answer is that of the test; what becomes of `kept` is decided by it and by the test of the length.
-use mathlib.Core.Path.{◌≡◌, refl, sym, ap, ◌∙◌}
+use mathlib.Core.Path.{◌≡◌, sym, ap, ◌∙◌}
 use Rattle.std.proofs.Common.{rules}
 use Rattle.std.specs.Prelude.{Err}
 use Rattle.model.specs.Record.{lists_of}

@@ -22,7 +22,7 @@ pub returns-then-many : goal.returns-then-many
 returns-then-many c = let a = c.args in
     let said = says_many a.read a.table.now a.out.now c.if-table-ne-TABLE.false c.if-out-lt-OUTPUT.false _ c.in-Ok.is c.if-many.true in
     answered a.read a.table.now a.out.now _ _ _ said
-    (wrote_same (ap (λ (n : ℕ). refusal_text n 0) c.number-then-many.ensures) refl (c.put_refusal-then-many.ensures.fits (omega arith)))
+    (wrote_same (ap (λ (n : ℕ). refusal_text n 0) c.from-then-many.ensures) refl (c.put_refusal-then-many.ensures.fits (omega arith)))
 
 pub returns-in-Err-Malformed : goal.returns-in-Err-Malformed
 returns-in-Err-Malformed c = let a = c.args in
@@ -31,7 +31,7 @@ returns-in-Err-Malformed c = let a = c.args in
     let is : a.read ≡ Err (Malformed c.in-Err-Malformed.line) = held.is ∙ ap Err why in
     let said = says_by a.read a.table.now a.out.now c.if-table-ne-TABLE.false c.if-out-lt-OUTPUT.false _ is in
     answered a.read a.table.now a.out.now _ _ _ said
-    (wrote_same (ap (λ (n : ℕ). refusal_text n c.in-Err-Malformed.line) c.number.ensures) refl (c.put_refusal.ensures.fits (omega arith)))
+    (wrote_same (ap (λ (n : ℕ). refusal_text n c.in-Err-Malformed.line) c.from.ensures) refl (c.put_refusal.ensures.fits (omega arith)))
 
 pub returns-in-Err-TooMany : goal.returns-in-Err-TooMany
 returns-in-Err-TooMany c = let a = c.args in
@@ -40,7 +40,7 @@ returns-in-Err-TooMany c = let a = c.args in
     let is : a.read ≡ Err TooMany = held.is ∙ ap Err why in
     let said = says_by a.read a.table.now a.out.now c.if-table-ne-TABLE.false c.if-out-lt-OUTPUT.false _ is in
     answered a.read a.table.now a.out.now _ _ _ said
-    (wrote_same (ap (λ (n : ℕ). refusal_text n 0) c.number-in-Err-TooMany.ensures) refl (c.put_refusal-in-Err-TooMany.ensures.fits (omega arith)))
+    (wrote_same (ap (λ (n : ℕ). refusal_text n 0) c.from-in-Err-TooMany.ensures) refl (c.put_refusal-in-Err-TooMany.ensures.fits (omega arith)))
 
 pub returns-else-many : goal.returns-else-many
 returns-else-many c = let a = c.args in

@@ -12,9 +12,9 @@ returns-then-out-lt-OUTPUT c = let a = c.args in
 
 pub returns-then-n-gt-PACKETS : goal.returns-then-n-gt-PACKETS
 returns-then-n-gt-PACKETS c = let a = c.args in
-    let said = over_said a.policy a.room a.slots.now a.values.now c.if-n-gt-PACKETS.true (c.of_run-reply.ensures ∙ c.too_many.ensures) in
+    let said = over_said a.policy a.room a.slots.now a.values.now c.if-n-gt-PACKETS.true c.too_many.result c.too_many.ensures in
     let spoken = spoken_all a.policy a.room a.slots.now a.values.now a.out.now c.if-out-lt-OUTPUT.false in
-    wrote_same (said ∙ spoken) refl (c.put_refusal.ensures.fits (omega (arith, c.if-out-lt-OUTPUT.false)))
+    wrote_same (said ∙ spoken) refl (c.refuse.ensures.fits (omega (arith, c.if-out-lt-OUTPUT.false)))
 
 pub returns : goal.returns
 returns c = let a = c.args in
