@@ -1,10 +1,6 @@
 -- `lab::auditing::misnumbered` meets its contract: the rows that are left tell what all do.
-use mathlib.Core.Path.{refl}
 use Rattle.lab.proofs.Audits.{numbered_turn, numbered_wrong, numbered_all}
 use Rattle.lab.proofs.auditing.misnumbered.Goals as goal
-
-pub loop-i-init : goal.loop-i-init
-loop-i-init c = refl
 
 pub returns-then-other : goal.returns-then-other
 returns-then-other c = numbered_wrong c.args.numbers.now c.loop-i.i c.loop-i-test.true c.loop-i.invariant c.if-other.true
