@@ -28,6 +28,7 @@ fn misnumbered(numbers: &[u32]) -> Option<usize>
 }
 
 // What the audit makes of a record whose rows are in their places.
+// By the reply's number, 0 where the record passed: that is the form of the C interface, whose numbers `replies` holds.
 fn say(
     room: usize,
     slots: &[u32],
