@@ -1,31 +1,76 @@
--- Each argument more is a word more in the three lists.
-use Prim.Native.Nat.{ℕ, ◌+◌, ◌<◌}
-use mathlib.Core.Path.{◌≡◌, refl, sym, ap₂, ◌∙◌}
-use mathlib.Core.List.{List, [], ◌∷◌, ◌++◌, map, map-append}
+-- Each argument more is a word more in the list; and each beta among the words behind the room is one more in the list of betas.
+use Prim.Native.Nat.{ℕ, ◌+◌, ◌-◌, ◌<◌, ◌≤◌}
+use mathlib.Core.Path.{◌≡◌, refl, sym, ap, ap₂, ◌∙◌}
+use mathlib.Core.List.{List, [], ◌∷◌, ◌++◌, map-append, append-nil}
 use native.Mathlib.Numerals.{add-one}
-use lib.ListN.{length, take, set}
-use lib.Seq.{take-suc-set}
-use Rattle.lab_jobs.specs.Words.{word_of}
-use Rattle.lab.specs.Heard.{Heard}
+use native.Mathlib.Omega.{arith}
+use lib.ListN.{length, get_or, take, drop, set, length-drop}
+use lib.Seq.{take-suc, take-suc-set, take_all}
+use Rattle.std.proofs.Common.{Option, Some, None}
+use Rattle.std.specs.List.{filter_map, cons_option}
+use Rattle.std.proofs.lemmas.List.Elements.{filter_map-append}
+use Rattle.model.specs.declared.Beta.{Beta}
+use Rattle.lab_jobs.specs.declared.words.Word.{Word}
+use Rattle.lab_jobs.specs.declared.words.Word.TheVariants as word
+use Rattle.lab_jobs.specs.Words.{beta_of, word_of}
+use Rattle.lab_jobs.proofs.Wording.{behind_is}
+use Rattle.lab.specs.Heard.{betas_in, Heard}
 
-take_more : (f : List ℕ → ℕ) (list : List ℕ) (i : ℕ) (arguments : List (List ℕ)) (more : List ℕ) (n : ℕ) → i < length list → n ≡ f more
-    → take i list ≡ map f arguments → take (i + 1) (set list i n) ≡ map f (arguments ++ more ∷ [])
-take_more f list i arguments more n inside is before =
-    rw (add-one i) (take-suc-set list i n inside) ∙ ap₂ (λ (l : List ℕ) (k : ℕ). l ++ k ∷ []) before is ∙ sym (map-append f arguments (more ∷ []))
+pub heard_none : (words : List Word) → Heard 0 words
+heard_none words = record { arguments = []; are = refl }
 
-pub heard_none : (words firsts seconds : List ℕ) → Heard 0 words firsts seconds
-heard_none words firsts seconds = record { arguments = []; kinds_are = refl; firsts_are = refl; seconds_are = refl }
-
-pub heard_more : (i : ℕ) (words firsts seconds bytes : List ℕ) (kind first second : ℕ) → i < length words → i < length firsts → i < length seconds
-    → kind ≡ (word_of bytes).kind → first ≡ (word_of bytes).first → second ≡ (word_of bytes).second → Heard i words firsts seconds
-    → Heard (i + 1) (set words i kind) (set firsts i first) (set seconds i second)
-heard_more i words firsts seconds bytes kind first second w f s k a b before =
+pub heard_more : (i : ℕ) (words : List Word) (bytes : List ℕ) (w : Word) → i < length words → w ≡ word_of bytes → Heard i words
+    → Heard (i + 1) (set words i w)
+heard_more i words bytes w inside is before =
     record {
       arguments = before.arguments ++ bytes ∷ [];
-      kinds_are = take_more (λ (bytes : List ℕ). (word_of bytes).kind) words i before.arguments bytes kind w k before.kinds_are;
-      firsts_are = take_more (λ (bytes : List ℕ). (word_of bytes).first) firsts i before.arguments bytes first f a before.firsts_are;
-      seconds_are = take_more (λ (bytes : List ℕ). (word_of bytes).second) seconds i before.arguments bytes second s b before.seconds_are;
+      are =
+          rw (add-one i) (take-suc-set words i w inside)
+          ∙ ap₂ (λ (l : List Word) (v : Word). l ++ v ∷ []) before.are is
+          ∙ sym (map-append word_of before.arguments (bytes ∷ []));
     }
 
-pub heard_at : (i count : ℕ) (words firsts seconds : List ℕ) → i ≡ count → Heard i words firsts seconds → Heard count words firsts seconds
-heard_at i count words firsts seconds e before = rw e at before
+pub heard_at : (i count : ℕ) (words : List Word) → i ≡ count → Heard i words → Heard count words
+heard_at i count words e before = rw e at before
+
+-- the betas among the first words of some
+pub record Copied (behind : List Word) (i : ℕ) (betas : List Beta) (count : ℕ) : Type 0 where
+  pub few : count ≤ i
+  pub are : take count betas ≡ filter_map beta_of (take i behind)
+
+pub copied_none : (behind : List Word) (betas : List Beta) → Copied behind 0 betas 0
+copied_none behind betas = record { few = omega arith; are = refl }
+
+module _ (behind : List Word) (i : ℕ) (more : i < length behind) where
+  copied_step : (found : Option Beta) → found ≡ beta_of (get_or behind i word.Other)
+      → filter_map beta_of (take (i + 1) behind) ≡ filter_map beta_of (take i behind) ++ cons_option found []
+  copied_step found is =
+      let one : take (i + 1) behind ≡ take i behind ++ (get_or behind i word.Other ∷ []) = rw (add-one i) (take-suc behind i word.Other more) in
+      ap (filter_map beta_of) one
+      ∙ filter_map-append beta_of (take i behind) (get_or behind i word.Other ∷ [])
+      ∙ ap (λ (o : Option Beta). filter_map beta_of (take i behind) ++ cons_option o []) (sym is)
+
+  pub copied_beta : (betas : List Beta) (count : ℕ) (beta : Beta) → count < length betas → Some beta ≡ beta_of (get_or behind i word.Other)
+      → Copied behind i betas count → Copied behind (i + 1) (set betas count beta) (count + 1)
+  copied_beta betas count beta inside is before =
+      record {
+        few = omega (arith, before.few);
+        are =
+            rw (add-one count) (take-suc-set betas count beta inside)
+            ∙ ap (λ (l : List Beta). l ++ beta ∷ []) before.are
+            ∙ sym (copied_step (Some beta) is);
+      }
+
+  pub copied_other : (betas : List Beta) (count : ℕ) → None ≡ beta_of (get_or behind i word.Other) → Copied behind i betas count
+      → Copied behind (i + 1) betas count
+  copied_other betas count is before =
+      record { few = omega (arith, before.few); are = before.are ∙ sym (append-nil _) ∙ sym (copied_step None is) }
+
+module _ (words : List Word) where
+  pub behind_length : length (take (length words - 2) (drop 2 words)) ≡ length words - 2
+  behind_length = ap length (behind_is 2 words) ∙ length-drop 2 words
+
+  pub copied_all : (i : ℕ) (betas : List Beta) (count : ℕ) → length (take (length words - 2) (drop 2 words)) ≤ i
+      → Copied (take (length words - 2) (drop 2 words)) i betas count → take count betas ≡ betas_in words
+  copied_all i betas count done copied =
+      copied.are ∙ ap (filter_map beta_of) (take_all i (take (length words - 2) (drop 2 words)) done ∙ behind_is 2 words)

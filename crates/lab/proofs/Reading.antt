@@ -9,26 +9,28 @@ use lib.ListN.{length, take, drop}
 use lib.Seq.{length-take-le, take_all, take_at}
 use lib.Dec.{ltb}
 use borrow.Author.Tests.{ltb-false}
+use Rattle.std.proofs.Common.{Option, Some, None, Ok}
+use Rattle.model.specs.declared.Beta.{Beta}
 use Rattle.model.specs.declared.Cause.TheVariants.{Packets}
 use Rattle.model.specs.Limits.{record_limits}
 use Rattle.model.specs.Numbers.{cause_number}
 use Rattle.signs.specs.Signs.{trace_header, record_header}
-use Rattle.field.specs.Fields.{fields_of, lettered, same}
+use Rattle.field.specs.Fields.{fields_of, lettered}
 use Rattle.rows.specs.declared.Rows.{Rows}
 use Rattle.rows.specs.declared.Rows.TheVariants.{TooMany, Read}
 use Rattle.rows.specs.Input.{Input, malformed, rows, columns_of, column_of, input_of}
 use Rattle.rows.specs.Table.{column_in}
 use Rattle.rows.specs.Whole.{all_lettered, HeaderOfLetters, text_of, said_of, Stands, Tells}
 use Rattle.input.specs.declared.Ended.{Ended}
-use Rattle.input.specs.Reads.{to_end, ReadToEnd, EndedBy, StoppedLong, Output, Overlong}
-use Rattle.input.proofs.Reading as reads
+use Rattle.input.specs.Reads.{to_end, ReadToEnd, EndedBy, Output}
 use Rattle.output.specs.Output.{refusal_text}
-use Rattle.lab.specs.declared.Told.TheVariants.{Answered}
 use Rattle.lab_jobs.specs.declared.jobs.Job.{Job}
-use Rattle.lab_jobs.specs.declared.jobs.Job.TheVariants.{Run, Table, Audit, None}
+use Rattle.lab_jobs.specs.declared.jobs.Job.TheVariants.{Run, Table, Audit}
+use Rattle.lab_jobs.specs.declared.words.Word.{Word}
 use Rattle.text.specs.Run.{run_text}
 use Rattle.lab_table.specs.Table.{table_text}
-use Rattle.lab_jobs.specs.Jobs.{is_table, job_from}
+use Rattle.lab_jobs.specs.Jobs.{job_from}
+use Rattle.lab.specs.Heard.{betas_in}
 use Rattle.lab.specs.Answer.{columns_in, answer_text, header_of, input_text, lab_output}
 use Rattle.lab_table.specs.Writing.{Begins}
 use Rattle.lab.specs.Told.{places_of, ReadFor, Few, read_text, words_output, ToldBy}
@@ -38,14 +40,12 @@ unfolding all_lettered lettered fields_of
 letters (Run policy room) = refl
 letters (Table room) = refl
 letters (Audit room) = refl
-letters None = refl
 
 places_fit : (job : Job) → places_of job ≤ 12288
 unfolding fields_of
 places_fit (Run policy room) = omega arith
 places_fit (Table room) = omega arith
 places_fit (Audit room) = omega arith
-places_fit None = omega arith
 
 -- the audit reads into all of the table, and each other job into its first two columns
 of_record : (r : Ended) (room : ℕ) (table table' : List ℕ) → EndedBy record_header r (take 12288 table) (take 12288 table')
@@ -66,15 +66,10 @@ unfolding fields_of
 of_trace (Run policy room) not r table table' by = by
 of_trace (Table room) not r table table' by = by
 of_trace (Audit room) not r table table' by = absurd (not room refl)
-of_trace None not r table table' by = by
 
 pub read_trace : (job : Job) → ((room : ℕ) → job ≡ Audit room → ⊥) → (r : Ended) (table first rest : List ℕ) → length first ≡ 4096
     → EndedBy trace_header r (take 4096 table) first → ReadFor job r table (first ++ rest)
 read_trace job not r table first rest size by = of_trace job not r table (first ++ rest) (rw (take_at first rest 4096 size) by)
-
--- what a way to end says
-pub read_by : (job : Job) {r : Ended} (k : Ended) (table table' : List ℕ) → r ≡ k → ReadFor job r table table' → ReadFor job k table table'
-read_by job k table table' is by = rw is at by
 
 -- a column that ends before the cut
 taken : (k count m : ℕ) (l : List ℕ) → k + count ≤ m → take count (drop k (take m l)) ≡ take count (drop k l)
@@ -99,32 +94,31 @@ module _ (table : List ℕ) (all : List (List ℕ)) (few : length all ≤ record
       → f (columns_in table (length all) 0) (columns_in table (length all) 1) ≡ f (column_of 0 all) (column_of 1 all)
   answers_trace is f = ap₂ f (column 2 4096 (omega arith) is 0 (omega arith)) (column 2 4096 (omega arith) is 1 (omega arith))
 
-  answers_record : (room : ℕ) (nums dens : List ℕ) → InPlace 6 12288 table all
-      → answer_text (Audit room) nums dens (columns_in table (length all)) ≡ answer_text (Audit room) nums dens (λ (j : ℕ). column_of j all)
-  answers_record room nums dens is =
+  answers_record : (room : ℕ) (betas : List Beta) → InPlace 6 12288 table all
+      → answer_text (Audit room) betas (columns_in table (length all)) ≡ answer_text (Audit room) betas (λ (j : ℕ). column_of j all)
+  answers_record room betas is =
       let at : (j : ℕ) → j < 6 → columns_in table (length all) j ≡ column_of j all = column 6 12288 (omega arith) is in
       rw (at 0 (omega arith), at 1 (omega arith), at 2 (omega arith), at 3 (omega arith), at 4 (omega arith), at 5 (omega arith)) refl
 
-  answers_all : (job : Job) (nums dens : List ℕ) → InPlace (columns_of (header_of job)) (places_of job) table all
-      → answer_text job nums dens (columns_in table (length all)) ≡ answer_text job nums dens (λ (j : ℕ). column_of j all)
+  answers_all : (job : Job) (betas : List Beta) → InPlace (columns_of (header_of job)) (places_of job) table all
+      → answer_text job betas (columns_in table (length all)) ≡ answer_text job betas (λ (j : ℕ). column_of j all)
   unfolding fields_of
-  answers_all (Run policy room) nums dens is = answers_trace is (run_text policy room)
-  answers_all (Table room) nums dens is = answers_trace is (table_text room nums dens)
-  answers_all (Audit room) nums dens is = answers_record room nums dens is
-  answers_all None nums dens is = refl
+  answers_all (Run policy room) betas is = answers_trace is (run_text policy room)
+  answers_all (Table room) betas is = answers_trace is (table_text room betas)
+  answers_all (Audit room) betas is = answers_record room betas is
 
 -- what is said of the table is what is said of the input that stands in it
-says_input : (job : Job) (nums dens table : List ℕ) (input : Input) → Stands (columns_of (header_of job)) input (take (places_of job) table)
-    → read_text job nums dens (said_of input) table ≡ input_text job nums dens input
+says_input : (job : Job) (betas : List Beta) (table : List ℕ) (input : Input) → Stands (columns_of (header_of job)) input (take (places_of job) table)
+    → read_text job betas (said_of input) table ≡ input_text job betas input
 unfolding input_text
-says_input job nums dens table (malformed line) stands = refl
-says_input job nums dens table (rows all) stands = go (ltb 2048 (length all)) refl
+says_input job betas table (malformed line) stands = refl
+says_input job betas table (rows all) stands = go (ltb 2048 (length all)) refl
   where
     go : (t : Bool) → ltb 2048 (length all) ≡ t
-        → read_text job nums dens (cond t TooMany (Read (length all))) table
-        ≡ cond t (refusal_text (cause_number Packets) 0) (answer_text job nums dens (λ (j : ℕ). column_of j all))
+        → read_text job betas (cond t TooMany (Read (length all))) table
+        ≡ cond t (refusal_text (cause_number Packets) 0) (answer_text job betas (λ (j : ℕ). column_of j all))
     go true e = refl
-    go false e = let few = ltb-false 2048 (length all) e in answers_all table all few job nums dens (stands few)
+    go false e = let few = ltb-false 2048 (length all) e in answers_all table all few job betas (stands few)
 
 few_said : (input : Input) → Few (said_of input)
 few_said (malformed line) = tt
@@ -133,14 +127,6 @@ few_said (rows all) = go (ltb 2048 (length all)) refl
     go : (t : Bool) → ltb 2048 (length all) ≡ t → Few (cond t TooMany (Read (length all)))
     go true e = tt
     go false e = ltb-false 2048 (length all) e
-
--- where something is asked, the input tells
-output_some : (job : Job) (nums dens : List ℕ) (input : Input) → (job ≡ None → ⊥) → input_text job nums dens input ≡ lab_output job nums dens input
-unfolding lab_output
-output_some (Run policy room) nums dens input some = refl
-output_some (Table room) nums dens input some = refl
-output_some (Audit room) nums dens input some = refl
-output_some None nums dens input some = absurd (some refl)
 
 module _ (job : Job) {read : Rows} (table table' : List ℕ) where
   told_all : length table ≡ 12288 → (ended : ReadToEnd (header_of job) read (take (places_of job) table) (take (places_of job) table'))
@@ -151,12 +137,12 @@ module _ (job : Job) {read : Rows} (table table' : List ℕ) where
   read_few size ended = rw (told_all size ended).says (few_said (input_of (header_of job) (text_of ended.pieces)))
 
 -- what was read is answered
-pub answered : (job : Job) (words firsts seconds table table' : List ℕ) {read : Rows} → job ≡ job_from words firsts seconds → (job ≡ None → ⊥)
-    → length table ≡ 12288 → ReadToEnd (header_of job) read (take (places_of job) table) (take (places_of job) table') → {n : ℕ} {out : List ℕ}
-    → Begins n (read_text job (drop 2 firsts) (drop 2 seconds) read table') out → Output (words_output words firsts seconds) n out
-answered job words firsts seconds table table' is some size ended B =
-    let nums = drop 2 firsts in
-    let dens = drop 2 seconds in
+pub answered : (job : Job) (words : List Word) (table table' : List ℕ) {read : Rows} → Some job ≡ job_from words → length table ≡ 12288
+    → ReadToEnd (header_of job) read (take (places_of job) table) (take (places_of job) table') → {n : ℕ} {out : List ℕ}
+    → Begins n (read_text job (betas_in words) read table') out → Output (words_output words) n out
+unfolding lab_output
+answered job words table table' is size ended B =
+    let betas = betas_in words in
     let text = text_of ended.pieces in
     let tells = told_all job table table' size ended in
     record {
@@ -165,22 +151,16 @@ answered job words firsts seconds table table' is some size ended B =
       whole = ended.whole;
       output =
           B.is
-          ∙ ap (λ (r : Rows). read_text job nums dens r table') tells.says
-          ∙ says_input job nums dens table' (input_of (header_of job) text) tells.stands
-          ∙ output_some job nums dens (input_of (header_of job) text) some
-          ∙ ap (λ (j : Job). lab_output j nums dens (input_of (header_of j) text)) is;
+          ∙ ap (λ (r : Rows). read_text job betas r table') tells.says
+          ∙ says_input job betas table' (input_of (header_of job) text) tells.stands
+          ∙ ap (λ (asked : Option Job). lab_output asked betas text) is;
     }
 
 -- words that ask for nothing
-pub nothing_asked : (job : Job) (words firsts seconds out : List ℕ) → job ≡ job_from words firsts seconds → job ≡ None → Output (words_output words firsts seconds) 0 out
+pub nothing_asked : (words : List Word) (out : List ℕ) → None ≡ job_from words → Output (words_output words) 0 out
 unfolding lab_output to_end
-nothing_asked job words firsts seconds out is none =
-    record { inside = omega arith; pieces = [] ∷ []; whole = refl; output = rw (← is, none) refl }
+nothing_asked words out none = record { inside = omega arith; pieces = [] ∷ []; whole = refl; output = rw (← none) refl }
 
-pub told_strange : (out : List ℕ) → ToldBy (Answered 0) out
-unfolding job_from is_table same
-told_strange out = record { arguments = []; told = nothing_asked None [] [] [] out refl refl }
-
--- more than can be counted
-pub too_long : (job : Job) (table table' : List ℕ) → StoppedLong (header_of job) (take (places_of job) table) (take (places_of job) table') → Overlong
-too_long job table table' much = reads.too_long much
+pub told_strange : (out : List ℕ) → ToldBy (Ok 0) out
+unfolding job_from
+told_strange out = record { arguments = []; told = nothing_asked [] out refl }

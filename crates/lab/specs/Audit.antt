@@ -1,5 +1,5 @@
 -- `audit`: a record in the form in which `run` writes it, and the totals or the first fault.
-use Rattle.std.specs.Prelude.{ℕ, suc, cond, List, [], ◌∷◌, ◌++◌, eqb}
+use Rattle.std.specs.Prelude.{ℕ, suc, cond, List, [], ◌∷◌, ◌++◌, eqb, Option, Some, None}
 use Rattle.model.specs.declared.Cause.TheVariants.{Text}
 use Rattle.model.specs.Record.{Lists}
 use Rattle.model.specs.Numbers.{cause_number}
@@ -9,10 +9,10 @@ use Rattle.signs.specs.Signs.{cr, lf}
 use Rattle.output.specs.Output.{line_with, refusal_text}
 use Rattle.lab_table.specs.Line.{counts_of}
 
--- the line of the first row whose number is not its place, 0 where each is; the header is line 1, so the row at place 1 is line 2
-unfoldable pub misnumbered_from : ℕ → List ℕ → ℕ
-misnumbered_from place [] = 0
-misnumbered_from place (n ∷ numbers) = cond (eqb n place) (misnumbered_from (suc place) numbers) (suc place)
+-- the line of the first row whose number is not its place; the header is line 1, so the row at place 1 is line 2
+unfoldable pub misnumbered_from : ℕ → List ℕ → Option ℕ
+misnumbered_from place [] = None
+misnumbered_from place (n ∷ numbers) = cond (eqb n place) (misnumbered_from (suc place) numbers) (Some (suc place))
 
 -- `sent,value,rejected,pushed out,preempted,flushed,most held`
 abbrev pub audit_header : List ℕ
@@ -28,8 +28,11 @@ verdict_text reply =
     (audit_header ++ line_with (counts_of reply.totals))
     (refusal_text reply.number reply.place)
 
+-- a row out of its place, else what the audit says
+abbrev pub audit_by : Option ℕ → Reply → List ℕ
+audit_by (Some line) verdict = refusal_text (cause_number Text) line
+audit_by None verdict = verdict_text verdict
+
 -- `audit ROOM`
 unfoldable pub audit_text : ℕ → List ℕ → List ℕ → List ℕ → Lists → List ℕ
-audit_text room numbers slots values lists =
-    let line = misnumbered_from 1 numbers in
-    cond (eqb line 0) (verdict_text (audit_call slots values room lists)) (refusal_text (cause_number Text) line)
+audit_text room numbers slots values lists = audit_by (misnumbered_from 1 numbers) (audit_call slots values room lists)

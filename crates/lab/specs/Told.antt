@@ -1,18 +1,22 @@
 -- What the program makes of its arguments and of its reads.
-use Rattle.std.specs.Prelude.{ℕ, ◌*◌, ◌≤◌, List, take, drop}
+use Rattle.std.specs.Prelude.{ℕ, ◌*◌, ◌≤◌, List, map, take, Result, Ok, Err}
+use Rattle.model.specs.declared.Beta.{Beta}
 use Rattle.model.specs.declared.Cause.TheVariants.{Packets, Text}
 use Rattle.model.specs.Limits.{record_limits}
 use Rattle.model.specs.Numbers.{cause_number}
 use Rattle.rows.specs.declared.Rows.{Rows}
 use Rattle.rows.specs.declared.Rows.TheVariants.{Malformed, TooMany, Read}
-use Rattle.rows.specs.Input.{columns_of, input_of}
+use Rattle.rows.specs.Input.{columns_of}
 use Rattle.input.specs.declared.Ended.{Ended}
 use Rattle.input.specs.Reads.{EndedBy, Output, Overlong}
 use Rattle.output.specs.Output.{refusal_text}
-use Rattle.lab.specs.declared.Told.{Told}
-use Rattle.lab.specs.declared.Told.TheVariants.{Answered, Failed, TooLong}
+use Rattle.lab.specs.declared.InputError.{InputError}
+use Rattle.lab.specs.declared.InputError.TheVariants.{Failed, TooLong}
 use Rattle.lab_jobs.specs.declared.jobs.Job.{Job}
-use Rattle.lab_jobs.specs.Jobs.{job_from, kinds_of, firsts_of, seconds_of}
+use Rattle.lab_jobs.specs.Jobs.{job_from}
+use Rattle.lab_jobs.specs.declared.words.Word.{Word}
+use Rattle.lab_jobs.specs.Words.{word_of}
+use Rattle.lab.specs.Heard.{betas_in}
 use Rattle.lab.specs.Answer.{columns_in, answer_text, header_of, lab_output}
 
 -- the places of the table that the columns of a job's header take: the first
@@ -30,25 +34,22 @@ Few TooMany = Unit {0}
 Few (Read count) = count ≤ record_limits.packets
 
 -- what is said of what was read into a table
-abbrev pub read_text : Job → (nums dens : List ℕ) → Rows → List ℕ → List ℕ
-read_text job nums dens (Malformed line) table = refusal_text (cause_number Text) line
-read_text job nums dens TooMany table = refusal_text (cause_number Packets) 0
-read_text job nums dens (Read count) table = answer_text job nums dens (columns_in table count)
+abbrev pub read_text : Job → (betas : List Beta) → Rows → List ℕ → List ℕ
+read_text job betas (Malformed line) table = refusal_text (cause_number Text) line
+read_text job betas TooMany table = refusal_text (cause_number Packets) 0
+read_text job betas (Read count) table = answer_text job betas (columns_in table count)
 
--- the output for some words and a text; a table's betas are the words behind its room. Words that ask for nothing get nothing, whatever the text is: then
--- nothing is read
-abbrev pub words_output : (words firsts seconds text : List ℕ) → List ℕ
-words_output words firsts seconds text =
-    let job = job_from words firsts seconds in
-    lab_output job (drop 2 firsts) (drop 2 seconds) (input_of (header_of job) text)
+-- the output for some words and a text. Words that ask for nothing get nothing, whatever the text is: then nothing is read
+abbrev pub words_output : List Word → (text : List ℕ) → List ℕ
+words_output words text = lab_output (job_from words) (betas_in words) text
 
 -- how answering some words ended
-abbrev pub ToldOf : (words firsts seconds : List ℕ) → Told → List ℕ → Type 0
-ToldOf words firsts seconds (Answered n) out = Output (words_output words firsts seconds) n out
-ToldOf words firsts seconds TooLong out = Overlong
-ToldOf words firsts seconds Failed out = Unit {0}
+abbrev pub ToldOf : List Word → Result ℕ InputError → List ℕ → Type 0
+ToldOf words (Ok n) out = Output (words_output words) n out
+ToldOf words (Err TooLong) out = Overlong
+ToldOf words (Err Failed) out = Unit {0}
 
 -- how answering the arguments ended
-pub record ToldBy (r : Told) (out : List ℕ) : Type 0 where
+pub record ToldBy (r : Result ℕ InputError) (out : List ℕ) : Type 0 where
   pub arguments : List (List ℕ)
-  pub told : ToldOf (kinds_of arguments) (firsts_of arguments) (seconds_of arguments) r out
+  pub told : ToldOf (map word_of arguments) r out

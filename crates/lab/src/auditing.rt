@@ -13,22 +13,22 @@ use replies::of_audit;
 
 const HEADER: [u8; 60] = *b"sent,value,rejected,pushed out,preempted,flushed,most held\r\n";
 
-// The line of the first row whose number is not its place; 0 where each is.
-fn misnumbered(numbers: &[u32]) -> usize
+// The line of the first row whose number is not its place.
+fn misnumbered(numbers: &[u32]) -> Option<usize>
     requires { length numbers.now ≤ record_limits.packets }
     ensures { result ≡ misnumbered_from 1 numbers.now }
 {
-    let mut i = 0;
-    while i < numbers.len() {
-        if numbers[i] as usize != i + 1 {
-            return i + 2;
+    for (i, number) in numbers.iter().enumerate() {
+        let other = *number as usize != i + 1;
+        if other {
+            return Some(i + 2);
         }
-        i += 1;
     }
-    0
+    None
 }
 
 // What the audit makes of a record whose rows are in their places.
+// By the reply's number, 0 where the record passed: that is the form of the C interface, whose numbers `replies` holds.
 fn say(
     room: usize,
     slots: &[u32],
@@ -65,8 +65,7 @@ pub fn check(
     requires in_bounds { 209 ≤ length out.old }
     ensures { WroteIn out result 0 (audit_text room numbers.now slots.now values.now (lists_of fates.now whens.now bys.now)) }
 {
-    let line = misnumbered(numbers);
-    if line != 0 {
+    if let Some(line) = misnumbered(numbers) {
         return put_refusal(out, Cause::Text.number() as u64, line as u64);
     }
     say(room, slots, values, fates, whens, bys, out)

@@ -34,7 +34,7 @@ impl Word {
     }
 
     // The beta that a word is.
-    pub(crate) fn beta(self) -> Option<Beta>
+    pub fn beta(self) -> Option<Beta>
         ensures { result ≡ beta_of self }
     {
         match self {

@@ -1,19 +1,13 @@
 -- `lab::answer_words` meets its contract: what was read to the end is answered.
 use mathlib.Core.Path.{refl}
-use Rattle.lab.proofs.Reading.{read_by, read_few, nothing_asked, answered, too_long}
+use Rattle.lab.proofs.Reading.{read_few, nothing_asked, answered}
 use Rattle.lab.proofs.answer_words.Goals as goal
 
-pub returns-in-None : goal.returns-in-None
-returns-in-None g c = nothing_asked c.job_from-job.result c.args.words.now c.args.firsts.now c.args.seconds.now _ c.job_from-job.ensures c.in-None.is
+pub returns-in_default : goal.returns-in_default
+returns-in_default g c = nothing_asked c.args.words.now _ c.in_default.ensures
 
-pub say_words-n-requires : goal.say_words-n-requires
-say_words-n-requires g c = record { seconds_len = c.requires.seconds_len; firsts_len_bound = c.requires.firsts_len_bound; rows_len = c.read_input.auto.table; few = read_few c.job_from-job.result _ _ refl (read_by c.job_from-job.result _ _ _ c.in-Read.is c.read_input.ensures); output_limit_in_bounds = c.requires.output_limit_in_bounds }
+pub say-requires-clause-few : goal.say-requires-clause-few
+say-requires-clause-few g c = read_few c.in-Some.job _ _ refl c.in-Read.ensures
 
 pub returns-in-Read : goal.returns-in-Read
-returns-in-Read g c = answered c.job_from-job.result c.args.words.now c.args.firsts.now c.args.seconds.now _ _ c.job_from-job.ensures c.in_default.not-None refl (read_by c.job_from-job.result _ _ _ c.in-Read.is c.read_input.ensures) c.say_words-n.ensures
-
-pub returns-in-Failed : goal.returns-in-Failed
-returns-in-Failed g c = tt
-
-pub returns-in-TooLong : goal.returns-in-TooLong
-returns-in-TooLong g c = too_long c.job_from-job.result _ _ (read_by c.job_from-job.result _ _ _ c.in-TooLong.is c.read_input.ensures)
+returns-in-Read g c = answered c.in-Some.job c.args.words.now _ _ c.in-Some.ensures refl c.in-Read.ensures (rw c.copy_betas-count.ensures.copied at c.say.ensures)

@@ -7,8 +7,8 @@ use Rattle.output.proofs.Writing.{wrote_same}
 use Rattle.lab.proofs.Audits.{audit_malformed, audit_formed}
 use Rattle.lab.proofs.auditing.check.Goals as goal
 
-pub returns-then-line-ne0 : goal.returns-then-line-ne0
-returns-then-line-ne0 c = wrote_same (ap (λ (n : ℕ). refusal_text n c.misnumbered-line.result) c.number.ensures ∙ audit_malformed c.args.room c.args.numbers.now c.args.slots.now c.args.values.now _ c.misnumbered-line.result c.misnumbered-line.ensures c.if-line-ne0.true) refl (c.put_refusal.ensures.fits (omega (arith, c.requires.in_bounds)))
+pub returns-in-Some : goal.returns-in-Some
+returns-in-Some c = wrote_same (ap (λ (n : ℕ). refusal_text n c.in-Some.line) c.number.ensures ∙ audit_malformed c.args.room c.args.numbers.now c.args.slots.now c.args.values.now _ c.in-Some.line c.in-Some.ensures) refl (c.put_refusal.ensures.fits (omega (arith, c.requires.in_bounds)))
 
 pub returns : goal.returns
-returns c = wrote_same (audit_formed c.args.room c.args.numbers.now c.args.slots.now c.args.values.now _ c.misnumbered-line.result c.misnumbered-line.ensures c.if-line-ne0.false) refl c.say.ensures
+returns c = wrote_same (audit_formed c.args.room c.args.numbers.now c.args.slots.now c.args.values.now _ c.in_default.ensures) refl c.say.ensures

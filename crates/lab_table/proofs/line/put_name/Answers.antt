@@ -1,13 +1,9 @@
 -- `lab_table::line::put_name` meets its contract: each case writes its parts one behind another.
-use mathlib.Core.Path.{refl, sym, ap}
+use mathlib.Core.Path.{refl}
 use native.Mathlib.Omega.{arith}
 use Rattle.output.proofs.Writing.{wrote_same, decimal_length}
-use Rattle.lab_table.specs.Line.{name_of}
 use Rattle.lab_table.proofs.Chain.{near, near_more, pg_name, mf_name}
 use Rattle.lab_table.proofs.line.put_name.Goals as goal
-
-pub returns-in-Greedy : goal.returns-in-Greedy
-returns-in-Greedy c = wrote_same (ap name_of (sym c.in-Greedy.is)) refl (c.put.ensures.fits (omega arith))
 
 pub returns-in-PG : goal.returns-in-PG
 returns-in-PG c = let pre = c.requires in
@@ -26,6 +22,3 @@ returns-in-MF c = let pre = c.requires in
     let w5 = near_more w4 c.put-second.ensures (omega arith) (omega arith) in
     let w6 = near_more w5 c.put_number-in-MF.ensures (omega arith) (decimal_length _) in
     wrote_same (mf_name c.args.policy c.in-MF.m c.in-MF.is) refl w6.wrote
-
-pub returns-in-Plan : goal.returns-in-Plan
-returns-in-Plan c = wrote_same (ap name_of (sym c.in-Plan.is)) refl (c.put-in-Plan.ensures.fits (omega arith))

@@ -5,12 +5,6 @@ use Rattle.std.proofs.lemmas.Result.{err_from_is_err_and}
 use Rattle.lab_table.proofs.Tables.{lined_near, betas_turn, betas_refused, betas_end}
 use Rattle.lab_table.proofs.lines.put_betas.Goals as goal
 
-pub loop-beta-init : goal.loop-beta-init
-loop-beta-init c = (omega (arith, c.requires), λ r o L. L)
-
-pub put_policy-requires : goal.put_policy-requires
-put_policy-requires c = omega (arith, c.loop-beta.invariant.0)
-
 pub returns-in_err-end : goal.returns-in_err-end
 returns-in_err-end c = let p = err_from_is_err_and c.from_residual.result c.from_residual.ensures.1 in
     let a = c.args in
