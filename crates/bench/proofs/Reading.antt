@@ -6,9 +6,9 @@ use native.Mathlib.Omega.{arith}
 use lib.ListN.{length, length-append, length-drop}
 use Rattle.signs.specs.Signs.{trace_header}
 use Rattle.field.specs.Fields.{fields_of, lettered}
-use Rattle.rows.specs.declared.Rows.{Rows}
+use Rattle.std.specs.Prelude.{Result}
+use Rattle.rows.specs.declared.RowsError.{RowsError}
 use Rattle.rows.specs.Whole.{all_lettered, HeaderOfLetters, text_of}
-use Rattle.input.specs.declared.Ended.{Ended}
 use Rattle.input.specs.Reads as reads
 use Rattle.input.specs.Reads.{Output}
 use Rattle.output.specs.Output.{output_limit}
@@ -16,20 +16,13 @@ use Rattle.text.specs.Bench.{bench_output}
 use Rattle.text.specs.Says as says
 use Rattle.text.specs.Says.{table_size}
 use Rattle.text.proofs.Whole.{whole}
-use Rattle.bench.specs.declared.Told.{Told}
-use Rattle.bench.specs.declared.Told.TheVariants.{Answered}
-use Rattle.bench.specs.Reads.{ToldBy}
 
 of_letters : HeaderOfLetters trace_header
 unfolding all_lettered lettered fields_of
 of_letters = refl
 
--- what a way to end says
-pub read_by : {r : Ended} (k : Ended) (table table' : List ℕ) → r ≡ k → reads.EndedBy trace_header r table table' → reads.EndedBy trace_header k table table'
-read_by k table table' is by = rw is at by
-
 -- what was read is answered
-pub answered : {read : Rows} {table table' : List ℕ} → reads.ReadToEnd trace_header read table table' → length table ≡ table_size → length table' ≡ table_size
+pub answered : {read : Result ℕ RowsError} {table table' : List ℕ} → reads.ReadToEnd trace_header read table table' → length table ≡ table_size → length table' ≡ table_size
     → {out out' : List ℕ} {r : ℕ} → output_limit ≤ length out → says.Answered read table' out r out' → Output bench_output r out'
 unfolding fields_of
 answered {read} {table} {table'} ended size size' {out} {out'} {r} long told =
@@ -41,7 +34,3 @@ answered {read} {table} {table'} ended size size' {out} {out'} {r} long told =
       whole = ended.whole;
       output = whole (text_of ended.pieces) read table' (ended.tells of_letters size) size' out long r out' told;
     }
-
--- what is to be written stands in the list
-pub told_inside : {r : Told} {n : ℕ} (out : List ℕ) → r ≡ Answered n → ToldBy r out → n ≤ length out
-told_inside out is by = (rw is at by).inside

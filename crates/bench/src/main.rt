@@ -6,40 +6,28 @@ ghost use Rattle.std.specs.Prelude.{◌≤◌, length};
 ghost use Rattle.output.specs.Output.{output_limit};
 ghost use Rattle.bench.specs.Reads.{ToldBy};
 
-use input::Ended;
+use input::InputError;
 use output::OUTPUT;
 use signs::TRACE;
 use std::io;
 use std::io::Read;
 use text::TABLE;
 
-// What there is to say: so many bytes to write, or nothing, where a read failed or the input was longer than can be counted.
-#[derive(Clone, Copy)]
-enum Told {
-    Answered(usize),
-    Failed,
-    TooLong,
-}
-
-// Reads the reader to its end and puts the answer to its text into the list.
-fn answer_input<R: Read>(reader: &mut R, out: &mut [u8]) -> Told
+// Reads the reader to its end and puts the answer to its text into the list: so many bytes, or nothing, where a read failed or the input was longer than
+// can be counted.
+fn answer_input<R: Read>(reader: &mut R, out: &mut [u8]) -> Result<usize, InputError>
     requires { output_limit ≤ length out.old }
     ensures { ToldBy result out.new }
 {
     let mut table = [0u32; TABLE];
-    match input::read_rows(reader, &TRACE, &mut table) {
-        Ended::Read(read) => {
-            let n = text::answer(read, &table, out);
-            Told::Answered(n)
-        }
-        Ended::Failed => Told::Failed,
-        Ended::TooLong => Told::TooLong,
-    }
+    let read = input::read_rows(reader, &TRACE, &mut table)?;
+    let n = text::answer(read, &table, out);
+    Ok(n)
 }
 
 fn main(rt: HostRuntime) -> io::Result<()> {
     let mut out = [0u8; OUTPUT];
-    let Told::Answered(n) = answer_input(&mut rt.stdin(), &mut out) else {
+    let Ok(n) = answer_input(&mut rt.stdin(), &mut out) else {
         return Ok(());
     };
     rt.write_all(&out[..n])

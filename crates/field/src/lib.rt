@@ -28,7 +28,8 @@ pub enum Kind {
     Number(u32),
 }
 
-// What a field has held so far: letters of the header's name, or digits of a number.
+// What a field has held so far: letters of the header's name, or digits of a number. Counts, and no enum of the two: a field that has held nothing may
+// become either, and a name may have no letters.
 #[derive(Clone, Copy)]
 pub struct Field {
     pub stage: Stage,

@@ -29,7 +29,8 @@ pub const OUTPUT: usize = 32 + ROW * Record::PACKETS;
 
 const REFUSAL: [u8; 15] = *b"refusal,place\r\n";
 
-// Whether the list has so many places from `at` on.
+// Whether the list has so many places from `at` on. One function of a closure in place of the five that test for their places would be no shorter: each
+// has its own length and its own text.
 fn has_places(out: &[u8], at: usize, need: usize) -> bool
     ensures { IsTrue result ↔ (at + need ≤ length out.now) }
 {

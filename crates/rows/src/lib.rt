@@ -21,7 +21,8 @@ pub enum RowsError {
 }
 
 // A text that has been read up to some byte: in which field of its present line, and whether its last byte is a CR that may begin a line's end; the number
-// of that line; and how many rows the lines before it hold, a count that stops at one more than there are places for.
+// of that line; and how many rows the lines before it hold, a count that stops at one more than there are places for. That one more is a count like the
+// others, so it is no Option; and the header and the table are lent to each call, since a parser that held them would be equal to no other.
 #[derive(Clone, Copy)]
 pub struct Parser {
     last: usize,

@@ -22,7 +22,7 @@ pub const TRACE: [u8; 10] = *b"slot,value";
 
 pub const RECORD: [u8; 30] = *b"number,slot,value,fate,when,by";
 
-// The headers above, shown equal to those that the definitions name.
+// The headers above, shown equal to those that the definitions name. Two functions and no generic one: each one's contract is of its own constant.
 pub fn trace_header() -> [u8; 10]
     ensures { result ≡ trace_header }
 {

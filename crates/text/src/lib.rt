@@ -24,7 +24,7 @@ const ROOM: usize = 2;
 
 const BETA: Beta = Beta { num: 9, den: 1 };
 
-// What a policy says of a trace, with its record in three lent lists.
+// What a policy says of a trace, with its record in three lent lists. The lists are one value only behind the call, which is lent three of them to write.
 fn say(
     policy: Policy,
     room: usize,
