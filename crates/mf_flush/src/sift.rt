@@ -17,7 +17,7 @@ fn goes_with(mark: PacketNumber, m: PacketNumber) -> bool
     mark.0 != 0 && mark.0 <= m.0
 }
 
-// The head's mark, 0 for none.
+// The head's mark, 0 for none, as the model's `head_mark` has it.
 pub fn head_mark(numbers: &[u32], values: &[u32], marks: &[u32], w: Window) -> PacketNumber
     requires { Within w numbers.now values.now }
     ensures { result ≡ head_mark marks.now (window_of w numbers.now values.now) }
