@@ -11,11 +11,11 @@ ghost use Rattle.model.specs.Port.{all, rises_from};
 use model::Record;
 
 // n is one of 1, .., high.
+#[tactic(auto, unfolding(model::specs::Limits::within))]
 pub fn in_range(high: usize, n: usize) -> bool
     ensures { result ≡ within 1 high n }
 {
-    let some = 1 <= n;
-    some && n <= high
+    (1..=high).contains(&n)
 }
 
 pub fn value_ok(value: u32) -> bool
@@ -24,7 +24,7 @@ pub fn value_ok(value: u32) -> bool
     in_range(Record::VALUE as usize, value as usize)
 }
 
-// All values are in range. Here and below nothing is decided on the way, so a turn costs little.
+// All values are in range. Here and below nothing is decided on the way, so a turn costs little: `all`, which stops at the first, took three times as long.
 pub fn values_ok(values: &[u32]) -> bool
     ensures { result ≡ all value_ok values.now }
 {

@@ -19,11 +19,7 @@ pub fn room_ok(room: usize) -> bool
 pub fn beta_ok(beta: Beta) -> bool
     ensures { result ≡ beta_ok beta }
 {
-    if !in_range(BETA as usize, beta.num as usize) {
-        return false;
-    }
-    if !in_range(BETA as usize, beta.den as usize) {
-        return false;
-    }
-    beta.den < beta.num
+    in_range(BETA as usize, beta.num as usize)
+        && in_range(BETA as usize, beta.den as usize)
+        && beta.den < beta.num
 }

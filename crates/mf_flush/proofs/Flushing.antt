@@ -26,13 +26,6 @@ use Rattle.steps.specs.Lent.{lent, placed}
 use Rattle.steps.proofs.Windows.{window, window_cons, window_none, stored}
 use Rattle.steps.proofs.Placing.{placed_none, placed_own, placed_behind}
 
--- a packet with no mark stays
-pub none_stays : (mark m : ℕ) → mark ≡ 0 → false ≡ (not (eqb mark 0) && leb mark m)
-none_stays mark m e = rw (eq-eqb mark 0 e) refl
-
-pub marked_by_lem : (mark m : ℕ) → (mark ≡ 0 → ⊥) → leb mark m ≡ (not (eqb mark 0) && leb mark m)
-marked_by_lem mark m h = rw (ne_eqb mark 0 h) refl
-
 module _ (m : PacketNumber) (marks : List ℕ) (p : Packet) (queue : List Packet) where
   goes_on : (t : Bool) → goes_with m marks p ≡ t → unflushed m marks (p ∷ queue) ≡ cond t (unflushed m marks queue) (p ∷ unflushed m marks queue)
   unfolding unflushed

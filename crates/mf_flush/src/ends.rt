@@ -82,11 +82,12 @@ pub fn end_slots(
     requires { Within w numbers.old values.old }
     ensures { EndsIn room marking slots.now from until (mf_from w numbers values marks fates whens bys) (mf_to result numbers values marks fates whens bys) }
 {
-    let mut head = w.head;
-    let mut tail = w.tail;
-    let mut slot = from.0;
-    while slot < until.0 && head < tail {
-        let left = end_slot(
+    let mut held = w;
+    for slot in from.0..until.0 {
+        if held.tail <= held.head {
+            return held;
+        }
+        held = end_slot(
             numbers,
             values,
             slots,
@@ -94,14 +95,11 @@ pub fn end_slots(
             fates,
             whens,
             bys,
-            Window { head, tail },
+            held,
             room,
             marking,
             Slot(slot),
         );
-        head = left.head;
-        tail = left.tail;
-        slot += 1;
     }
-    Window { head, tail }
+    held
 }

@@ -14,13 +14,10 @@ use steps::Window;
 fn goes_with(mark: PacketNumber, m: PacketNumber) -> bool
     ensures { result ≡ (not (eqb mark.0 0) && leb mark.0 m.0) }
 {
-    if mark.0 == 0 {
-        return false;
-    }
-    mark.0 <= m.0
+    mark.0 != 0 && mark.0 <= m.0
 }
 
-// The head's mark, 0 for none.
+// The head's mark, 0 for none, as the model's `head_mark` has it.
 pub fn head_mark(numbers: &[u32], values: &[u32], marks: &[u32], w: Window) -> PacketNumber
     requires { Within w numbers.now values.now }
     ensures { result ≡ head_mark marks.now (window_of w numbers.now values.now) }
@@ -56,24 +53,22 @@ fn sift(
 {
     let head = w.head;
     let tail = w.tail;
-    let mut from = head;
     let mut to = head;
-    while from < tail {
+    for from in head..tail {
         let number = numbers[from];
         let value = values[from];
         let p = Packet {
             number: PacketNumber(number),
             value,
         };
-        from += 1;
         let mark = mark_of(marks, p);
         if goes_with(mark, m) {
             enter(fates, whens, bys, p.number, Fate::Flushed, slot, mark);
-        } else {
-            numbers[to] = p.number.0;
-            values[to] = p.value;
-            to += 1;
+            continue;
         }
+        numbers[to] = p.number.0;
+        values[to] = p.value;
+        to += 1;
     }
     Window { head, tail: to }
 }

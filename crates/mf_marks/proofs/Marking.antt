@@ -9,7 +9,6 @@ use native.Mathlib.Nat.{add-zero}
 use lib.ListN.{length, take, drop, set, length-take}
 use lib.Seq.{take-take, take_all}
 use lib.Dec.{eqb}
-use borrow.Author.Tests.{ne_eqb, eq-eqb}
 use Rattle.model.specs.declared.Packet.{Packet}
 use Rattle.model.specs.declared.PacketNumber.{PacketNumber}
 use Rattle.model.specs.declared.Slot.{Slot}
@@ -23,17 +22,6 @@ use Rattle.steps.specs.declared.Window.{Window}
 use Rattle.steps.specs.Window.{part, window_of, Within}
 use Rattle.mf_marks.specs.Mark.{older_than, marked_by}
 use Rattle.steps.proofs.Windows.{window, window_cons, window_none}
-
-pub twice_not : (t : Bool) → t ≡ not (not t)
-twice_not true = refl
-twice_not false = refl
-
--- two tests, the first of which is whether two numbers are equal
-pub both_fail : (a b : ℕ) (t : Bool) → (a ≡ b → ⊥) → false ≡ (eqb a b && t)
-both_fail a b t h = rw (ne_eqb a b h) refl
-
-pub both_by_second : (a b : ℕ) (s t : Bool) → a ≡ b → s ≡ t → s ≡ (eqb a b && t)
-both_by_second a b s t h e = rw (eq-eqb a b h) e
 
 -- one of two lists by a test
 pub by_first : (t : Bool) (first second list : List ℕ) → t ≡ true → list ≡ first → list ≡ cond t first second

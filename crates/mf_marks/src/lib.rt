@@ -11,7 +11,7 @@ use steps::{Window, lies_within};
 
 mod step;
 
-// The number of the packet that marked a packet, 0 for none.
+// The number of the packet that marked a packet, 0 for none: marks are plain numbers in a lent list, and the model's `mark_of` has 0 for none.
 pub fn mark_of(marks: &[u32], p: Packet) -> PacketNumber
     ensures { result ≡ mark_of marks.now p }
 {

@@ -46,7 +46,7 @@ fn raise(held: &mut [u16], place: usize, end: usize)
     }
 }
 
-// Keeps the packet at a place if it fits with those kept already.
+// Keeps the packet at a place if it fits with those kept already. The entries are 1 and 0 and no `bool`s, as the model's `plan_kept` has them.
 fn keep_if_fits(slots: &[u32], room: usize, held: &mut [u16], kept: &mut [u8], place: usize)
     requires keepable { Keepable slots.now room kept.old }
     requires held_as { HeldAs slots.now room kept.old held.old }

@@ -40,6 +40,7 @@ fn tally_of(values: &[u32], fates: &[u32], fate: Fate) -> Tally
     Tally { count, value }
 }
 
+#[tactic(auto, using(crate::proofs::Counting::all_fit, crate::proofs::Counting::some_bad))]
 pub fn totals(values: &[u32], fates: &[u32], most: u32) -> Totals
     ensures { CountedOrNone values.now fates.now most result }
 {
@@ -49,7 +50,8 @@ pub fn totals(values: &[u32], fates: &[u32], most: u32) -> Totals
     if Record::PACKETS < fates.len() {
         return Totals::none();
     }
-    if !values_ok(values) {
+    let fit = values_ok(values);
+    if !fit {
         return Totals::none();
     }
     let all = sum_of(values);
