@@ -23,7 +23,7 @@ put_line-requires c = let head = c.put-at.ensures.fits (omega (arith, c.requires
     omega (arith, c.requires.betas_len_bound, c.requires.table_limit_in_bounds, head.behind, c.put_compared.auto.out, c.put_mf-end.auto.out, c.put_mf-end.ensures.behind, mf_length c.args.room c.args.slots.now c.args.values.now c.args.plan.sent.value)
 
 pub returns-in-Err : goal.returns-in-Err
-returns-in-Err c = begins (wrote_same (table_refused c.args.room c.args.betas.now c.args.slots.now c.args.values.now c.args.plan c.in-Err.refusal _ _ _ c.in-Err.ensures) refl c.refuse.ensures)
+returns-in-Err c = begins (wrote_same (table_refused c.args.room c.args.betas.now c.args.slots.now c.args.values.now c.args.plan c.in-Err.refusal _ _ _ c.in-Err.ensures) refl (c.refuse.ensures.fits (omega (arith, c.requires.table_limit_in_bounds, c.put_compared.auto.out, c.put-at.auto.out))))
 
 pub returns-in-Ok : goal.returns-in-Ok
 returns-in-Ok c = let head = c.put-at.ensures.fits (omega (arith, c.requires.table_limit_in_bounds)) in
