@@ -1,7 +1,8 @@
 -- Each argument more is a word more in the list; and each beta among the words behind the room is one more in the list of betas.
 use Prim.Native.Nat.{ℕ, ◌+◌, ◌-◌, ◌<◌, ◌≤◌}
 use mathlib.Core.Path.{◌≡◌, refl, sym, ap, ap₂, ◌∙◌}
-use mathlib.Core.List.{List, [], ◌∷◌, ◌++◌, map-append, append-nil}
+use mathlib.Core.Bool.{true}
+use mathlib.Core.List.{List, [], ◌∷◌, ◌++◌, map, map-append, append-nil}
 use native.Mathlib.Numerals.{add-one}
 use native.Mathlib.Omega.{arith}
 use lib.ListN.{length, get_or, take, drop, set, length-drop}
@@ -13,6 +14,7 @@ use Rattle.model.specs.declared.Beta.{Beta}
 use Rattle.lab_jobs.specs.declared.words.Word.{Word}
 use Rattle.lab_jobs.specs.declared.words.Word.TheVariants as word
 use Rattle.lab_jobs.specs.Words.{beta_of, word_of}
+use Rattle.lab_jobs.specs.Jobs.{all_betas}
 use Rattle.lab_jobs.proofs.Wording.{behind_is}
 use Rattle.lab.specs.Heard.{betas_in, Heard}
 
@@ -74,3 +76,17 @@ module _ (words : List Word) where
       → Copied (take (length words - 2) (drop 2 words)) i betas count → take count betas ≡ betas_in words
   copied_all i betas count done copied =
       copied.are ∙ ap (filter_map beta_of) (take_all i (take (length words - 2) (drop 2 words)) done ∙ behind_is 2 words)
+
+-- where all words are betas, as those behind a table's room are, none is left out
+pub table_betas : (words : List Word) → all_betas words ≡ true → map word.Beta (filter_map beta_of words) ≡ words
+table_betas [] all = refl
+table_betas (word.Beta beta ∷ words) all = ap (λ (l : List Word). word.Beta beta ∷ l) (table_betas words all)
+table_betas (word.Other ∷ words) all = cc
+table_betas (word.Run ∷ words) all = cc
+table_betas (word.Table ∷ words) all = cc
+table_betas (word.Audit ∷ words) all = cc
+table_betas (word.Greedy ∷ words) all = cc
+table_betas (word.Pg ∷ words) all = cc
+table_betas (word.Mf ∷ words) all = cc
+table_betas (word.Plan ∷ words) all = cc
+table_betas (word.Number n ∷ words) all = cc

@@ -66,6 +66,7 @@ fn command_from(name: Word, parameters: &[Word]) -> Option<Job>
 }
 
 // The job of some words; none where they ask for nothing.
+// Word by word, and not by one match of the whole list: of a variant inside a slice pattern the facts have no name that a proof may cite.
 #[tactic(auto, unfolding(crate::specs::Jobs::job_from))]
 pub fn job_from(words: &[Word]) -> Option<Job>
     ensures { result ≡ job_from words.now }
