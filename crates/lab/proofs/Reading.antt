@@ -9,20 +9,22 @@ use lib.ListN.{length, take, drop}
 use lib.Seq.{length-take-le, take_all, take_at}
 use lib.Dec.{ltb}
 use borrow.Author.Tests.{ltb-false}
-use Rattle.std.proofs.Common.{Option, Some, None, Ok}
+use Rattle.std.proofs.Common.{Option, Some, None, Ok, Result, Err}
 use Rattle.model.specs.declared.Beta.{Beta}
 use Rattle.model.specs.declared.Cause.TheVariants.{Packets}
 use Rattle.model.specs.Limits.{record_limits}
 use Rattle.model.specs.Numbers.{cause_number}
 use Rattle.signs.specs.Signs.{trace_header, record_header}
 use Rattle.field.specs.Fields.{fields_of, lettered}
-use Rattle.rows.specs.declared.Rows.{Rows}
-use Rattle.rows.specs.declared.Rows.TheVariants.{TooMany, Read}
+use Rattle.rows.specs.declared.RowsError.{RowsError}
+use Rattle.rows.specs.declared.RowsError.TheVariants.{TooMany}
 use Rattle.rows.specs.Input.{Input, malformed, rows, columns_of, column_of, input_of}
 use Rattle.rows.specs.Table.{column_in}
 use Rattle.rows.specs.Whole.{all_lettered, HeaderOfLetters, text_of, said_of, Stands, Tells}
-use Rattle.input.specs.declared.Ended.{Ended}
+use Rattle.input.specs.declared.InputError.{InputError}
+use Rattle.input.specs.declared.InputError.TheVariants.{Failed, TooLong}
 use Rattle.input.specs.Reads.{to_end, ReadToEnd, EndedBy, Output}
+use Rattle.input.proofs.Reading as reads
 use Rattle.output.specs.Output.{refusal_text}
 use Rattle.lab_jobs.specs.declared.jobs.Job.{Job}
 use Rattle.lab_jobs.specs.declared.jobs.Job.TheVariants.{Run, Table, Audit}
@@ -33,7 +35,7 @@ use Rattle.lab_jobs.specs.Jobs.{job_from}
 use Rattle.lab.specs.Heard.{betas_in}
 use Rattle.lab.specs.Answer.{columns_in, answer_text, header_of, input_text, lab_output}
 use Rattle.lab_table.specs.Writing.{Begins}
-use Rattle.lab.specs.Told.{places_of, ReadFor, Few, read_text, words_output, ToldBy}
+use Rattle.lab.specs.Told.{places_of, ReadFor, Few, read_text, words_output, ToldBy, ToldOf}
 
 letters : (job : Job) → HeaderOfLetters (header_of job)
 unfolding all_lettered lettered fields_of
@@ -48,26 +50,26 @@ places_fit (Table room) = omega arith
 places_fit (Audit room) = omega arith
 
 -- the audit reads into all of the table, and each other job into its first two columns
-of_record : (r : Ended) (room : ℕ) (table table' : List ℕ) → EndedBy record_header r (take 12288 table) (take 12288 table')
+of_record : (r : Result (Result ℕ RowsError) InputError) (room : ℕ) (table table' : List ℕ) → EndedBy record_header r (take 12288 table) (take 12288 table')
     → ReadFor (Audit room) r table table'
 unfolding fields_of
 of_record r room table table' by = by
 
-pub read_record : (job : Job) {room : ℕ} → job ≡ Audit room → (r : Ended) (table table' : List ℕ) → length table ≡ 12288 → length table' ≡ 12288
+pub read_record : (job : Job) {room : ℕ} → job ≡ Audit room → (r : Result (Result ℕ RowsError) InputError) (table table' : List ℕ) → length table ≡ 12288 → length table' ≡ 12288
     → EndedBy record_header r table table' → ReadFor job r table table'
 read_record job {room} is r table table' size size' by =
     let all = take_all 12288 table (omega arith) in
     let all' = take_all 12288 table' (omega arith) in
     rw is (of_record r room table table' (rw (all, all') by))
 
-of_trace : (job : Job) → ((room : ℕ) → job ≡ Audit room → ⊥) → (r : Ended) (table table' : List ℕ)
+of_trace : (job : Job) → ((room : ℕ) → job ≡ Audit room → ⊥) → (r : Result (Result ℕ RowsError) InputError) (table table' : List ℕ)
     → EndedBy trace_header r (take 4096 table) (take 4096 table') → ReadFor job r table table'
 unfolding fields_of
 of_trace (Run policy room) not r table table' by = by
 of_trace (Table room) not r table table' by = by
 of_trace (Audit room) not r table table' by = absurd (not room refl)
 
-pub read_trace : (job : Job) → ((room : ℕ) → job ≡ Audit room → ⊥) → (r : Ended) (table first rest : List ℕ) → length first ≡ 4096
+pub read_trace : (job : Job) → ((room : ℕ) → job ≡ Audit room → ⊥) → (r : Result (Result ℕ RowsError) InputError) (table first rest : List ℕ) → length first ≡ 4096
     → EndedBy trace_header r (take 4096 table) first → ReadFor job r table (first ++ rest)
 read_trace job not r table first rest size by = of_trace job not r table (first ++ rest) (rw (take_at first rest 4096 size) by)
 
@@ -115,7 +117,7 @@ says_input job betas table (malformed line) stands = refl
 says_input job betas table (rows all) stands = go (ltb 2048 (length all)) refl
   where
     go : (t : Bool) → ltb 2048 (length all) ≡ t
-        → read_text job betas (cond t TooMany (Read (length all))) table
+        → read_text job betas (cond t (Err TooMany) (Ok (length all))) table
         ≡ cond t (refusal_text (cause_number Packets) 0) (answer_text job betas (λ (j : ℕ). column_of j all))
     go true e = refl
     go false e = let few = ltb-false 2048 (length all) e in answers_all table all few job betas (stands few)
@@ -124,11 +126,11 @@ few_said : (input : Input) → Few (said_of input)
 few_said (malformed line) = tt
 few_said (rows all) = go (ltb 2048 (length all)) refl
   where
-    go : (t : Bool) → ltb 2048 (length all) ≡ t → Few (cond t TooMany (Read (length all)))
+    go : (t : Bool) → ltb 2048 (length all) ≡ t → Few (cond t (Err TooMany) (Ok (length all)))
     go true e = tt
     go false e = ltb-false 2048 (length all) e
 
-module _ (job : Job) {read : Rows} (table table' : List ℕ) where
+module _ (job : Job) {read : Result ℕ RowsError} (table table' : List ℕ) where
   told_all : length table ≡ 12288 → (ended : ReadToEnd (header_of job) read (take (places_of job) table) (take (places_of job) table'))
       → Tells (header_of job) (text_of ended.pieces) read (take (places_of job) table')
   told_all size ended = ended.tells (letters job) (length-take-le (places_of job) table (omega (arith, places_fit job)))
@@ -137,7 +139,7 @@ module _ (job : Job) {read : Rows} (table table' : List ℕ) where
   read_few size ended = rw (told_all size ended).says (few_said (input_of (header_of job) (text_of ended.pieces)))
 
 -- what was read is answered
-pub answered : (job : Job) (words : List Word) (table table' : List ℕ) {read : Rows} → Some job ≡ job_from words → length table ≡ 12288
+pub answered : (job : Job) (words : List Word) (table table' : List ℕ) {read : Result ℕ RowsError} → Some job ≡ job_from words → length table ≡ 12288
     → ReadToEnd (header_of job) read (take (places_of job) table) (take (places_of job) table') → {n : ℕ} {out : List ℕ}
     → Begins n (read_text job (betas_in words) read table') out → Output (words_output words) n out
 unfolding lab_output
@@ -151,7 +153,7 @@ answered job words table table' is size ended B =
       whole = ended.whole;
       output =
           B.is
-          ∙ ap (λ (r : Rows). read_text job betas r table') tells.says
+          ∙ ap (λ (r : Result ℕ RowsError). read_text job betas r table') tells.says
           ∙ says_input job betas table' (input_of (header_of job) text) tells.stands
           ∙ ap (λ (asked : Option Job). lab_output asked betas text) is;
     }
@@ -164,3 +166,9 @@ nothing_asked words out none = record { inside = omega arith; pieces = [] ∷ []
 pub told_strange : (out : List ℕ) → ToldBy (Ok 0) out
 unfolding job_from
 told_strange out = record { arguments = []; told = nothing_asked [] out refl }
+
+-- what is told where there is nothing to say
+pub not_read : (job : Job) (words : List Word) (out : List ℕ) (e : InputError) (table table' : List ℕ) → ReadFor job (Err e) table table'
+    → ToldOf words (Err e) out
+not_read job words out Failed table table' by = tt
+not_read job words out TooLong table table' by = reads.too_long by

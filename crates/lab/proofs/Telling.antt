@@ -2,13 +2,14 @@
 use Prim.Native.Nat.{ℕ}
 use mathlib.Core.Path.{◌≡◌}
 use mathlib.Core.List.{List}
+use Rattle.std.proofs.Common.{Result}
 use Rattle.model.specs.declared.Beta.{Beta}
-use Rattle.rows.specs.declared.Rows.{Rows}
+use Rattle.rows.specs.declared.RowsError.{RowsError}
 use Rattle.lab_jobs.specs.declared.jobs.Job.{Job}
 use Rattle.lab_table.specs.Writing.{Begins}
 use Rattle.lab.specs.Told.{read_text}
 
 -- by what was read
-pub said_by : (job : Job) (betas : List Beta) {read : Rows} (k : Rows) (table : List ℕ) {n : ℕ} {out : List ℕ} → read ≡ k
+pub said_by : (job : Job) (betas : List Beta) {read : Result ℕ RowsError} (k : Result ℕ RowsError) (table : List ℕ) {n : ℕ} {out : List ℕ} → read ≡ k
     → Begins n (read_text job betas k table) out → Begins n (read_text job betas read table) out
 said_by job betas k table is B = rw is B

@@ -7,9 +7,8 @@ ghost use Rattle.output.specs.Writing.{WroteIn};
 ghost use Rattle.lab.specs.Audit.{misnumbered_from, verdict_text, audit_text};
 
 use lab_table::counts_of;
-use model::Cause;
-use output::{put, put_line, put_refusal};
-use replies::of_audit;
+use model::{AuditError, Cause};
+use output::{put, put_line, put_refusal, refuse};
 
 const HEADER: [u8; 60] = *b"sent,value,rejected,pushed out,preempted,flushed,most held\r\n";
 
@@ -28,7 +27,6 @@ fn misnumbered(numbers: &[u32]) -> Option<usize>
 }
 
 // What the audit makes of a record whose rows are in their places.
-// By the reply's number, 0 where the record passed: that is the form of the C interface, whose numbers `replies` holds.
 fn say(
     room: usize,
     slots: &[u32],
@@ -41,13 +39,18 @@ fn say(
     requires { 209 ≤ length out.old }
     ensures { WroteIn out result 0 (verdict_text (audit_call slots.now values.now room (lists_of fates.now whens.now bys.now))) }
 {
-    let reply = of_audit(audit::audit(slots, values, room, fates, whens, bys));
-    if reply.number != 0 {
-        return put_refusal(out, reply.number as u64, reply.place as u64);
+    match audit::audit(slots, values, room, fates, whens, bys) {
+        Ok(totals) => {
+            let at = put(out, 0, &HEADER);
+            put_line(out, at, &counts_of(totals))
+        }
+        Err(AuditError::Faulty(first)) => put_refusal(
+            out,
+            u32::from(first.fault) as u64,
+            first.packet.0 as u64,
+        ),
+        Err(AuditError::Refused(refusal)) => refuse(out, refusal),
     }
-    let counts = counts_of(reply.totals);
-    let at = put(out, 0, &HEADER);
-    put_line(out, at, &counts)
 }
 
 // What the audit makes of a record, with its rows' numbers.
@@ -66,7 +69,7 @@ pub fn check(
     ensures { WroteIn out result 0 (audit_text room numbers.now slots.now values.now (lists_of fates.now whens.now bys.now)) }
 {
     if let Some(line) = misnumbered(numbers) {
-        return put_refusal(out, Cause::Text.number() as u64, line as u64);
+        return put_refusal(out, u32::from(Cause::Text) as u64, line as u64);
     }
     say(room, slots, values, fates, whens, bys, out)
 }

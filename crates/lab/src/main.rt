@@ -16,13 +16,13 @@ ghost use Rattle.lab.specs.Told.{ReadFor, Few, read_text, ToldOf, ToldBy};
 
 use answer::answer;
 use arguments::{WORDS, copy_betas, read_words};
-use input::{Ended, read_rows};
+use input::{InputError, read_rows};
 use lab_jobs::jobs::{Job, job_from};
 use lab_jobs::words::Word;
 use lab_table::BETAS;
 use model::{Beta, Cause, Record};
 use output::{OUTPUT, put_refusal};
-use rows::Rows;
+use rows::RowsError;
 use signs::{RECORD, TRACE};
 use std::env::Env;
 use std::io;
@@ -33,15 +33,12 @@ const TRACE_TABLE: usize = 2 * Record::PACKETS;
 
 const RECORD_TABLE: usize = 6 * Record::PACKETS;
 
-// Why there is nothing to say: a read failed, or the input was longer than can be counted.
-#[derive(Clone, Copy)]
-enum InputError {
-    Failed,
-    TooLong,
-}
-
 // Reads the input of a job: a record for the audit, else a trace, into the table's first columns.
-fn read_input<R: Read>(reader: &mut R, job: Job, table: &mut [u32]) -> Ended
+fn read_input<R: Read>(
+    reader: &mut R,
+    job: Job,
+    table: &mut [u32],
+) -> Result<Result<usize, RowsError>, InputError>
     requires { length table.old ≡ record_places }
     ensures { ReadFor job result table.old table.new }
 {
@@ -52,7 +49,13 @@ fn read_input<R: Read>(reader: &mut R, job: Job, table: &mut [u32]) -> Ended
 }
 
 // What is said of a job and what was read for it.
-fn say(job: Job, betas: &[Beta], read: Rows, rows: &[u32], out: &mut [u8]) -> usize
+fn say(
+    job: Job,
+    betas: &[Beta],
+    read: Result<usize, RowsError>,
+    rows: &[u32],
+    out: &mut [u8],
+) -> usize
     requires betas_len_bound { length betas.now ≤ most_betas }
     requires rows_len { length rows.now ≡ record_places }
     requires few { Few read }
@@ -60,9 +63,9 @@ fn say(job: Job, betas: &[Beta], read: Rows, rows: &[u32], out: &mut [u8]) -> us
     ensures { BeginsIn out result (read_text job betas.now read rows.now) }
 {
     match read {
-        Rows::Read(count) => answer(job, betas, rows, count, out),
-        Rows::Malformed(line) => put_refusal(out, Cause::Text.number() as u64, line),
-        Rows::TooMany => put_refusal(out, Cause::Packets.number() as u64, 0),
+        Ok(count) => answer(job, betas, rows, count, out),
+        Err(RowsError::Malformed(line)) => put_refusal(out, u32::from(Cause::Text) as u64, line),
+        Err(RowsError::TooMany) => put_refusal(out, u32::from(Cause::Packets) as u64, 0),
     }
 }
 
@@ -82,11 +85,8 @@ fn answer_words<R: Read>(
     let mut betas = [Beta { num: 0, den: 0 }; BETAS];
     let count = copy_betas(words, &mut betas);
     let mut rows = [0u32; RECORD_TABLE];
-    match read_input(reader, job, &mut rows) {
-        Ended::Read(read) => Ok(say(job, &betas[..count], read, &rows, out)),
-        Ended::Failed => Err(InputError::Failed),
-        Ended::TooLong => Err(InputError::TooLong),
-    }
+    let read = read_input(reader, job, &mut rows)?;
+    Ok(say(job, &betas[..count], read, &rows, out))
 }
 
 // Reads the arguments and answers them.

@@ -8,7 +8,7 @@ use Rattle.lab.proofs.Audits.{audit_malformed, audit_formed}
 use Rattle.lab.proofs.auditing.check.Goals as goal
 
 pub returns-in-Some : goal.returns-in-Some
-returns-in-Some c = wrote_same (ap (λ (n : ℕ). refusal_text n c.in-Some.line) c.number.ensures ∙ audit_malformed c.args.room c.args.numbers.now c.args.slots.now c.args.values.now _ c.in-Some.line c.in-Some.ensures) refl (c.put_refusal.ensures.fits (omega (arith, c.requires.in_bounds)))
+returns-in-Some c = wrote_same (ap (λ (n : ℕ). refusal_text n c.in-Some.line) c.from.ensures ∙ audit_malformed c.args.room c.args.numbers.now c.args.slots.now c.args.values.now _ c.in-Some.line c.in-Some.ensures) refl (c.put_refusal.ensures.fits (omega (arith, c.requires.in_bounds)))
 
 pub returns : goal.returns
 returns c = wrote_same (audit_formed c.args.room c.args.numbers.now c.args.slots.now c.args.values.now _ c.in_default.ensures) refl c.say.ensures
