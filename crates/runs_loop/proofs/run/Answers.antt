@@ -1,0 +1,37 @@
+-- The invariant holds before the first packet, each packet takes the run one place further, and the ends of slots complete it.
+use Rattle.std.proofs.Common.{◌≡◌, ◌+◌, ◌-◌, max, refl, ◌∙◌, arith, rules}
+use Rattle.std.proofs.lemmas.Iterator.Consumers.{YieldsList-turn, YieldsList-end}
+use Rattle.std.proofs.lemmas.List.{length_push}
+use Rattle.model.specs.Record.{lists_of}
+use Rattle.runs_loop.proofs.Going.{started, turn_taken, ends_taken}
+use Rattle.runs_loop.proofs.Pairs.{at_place, as_many, yields_placed}
+use Rattle.runs_loop.proofs.run.Goals as goal
+
+pub loop-i-init : goal.loop-i-init
+loop-i-init g c =
+    let a = c.args in
+    let m = g.P.Policy in
+    (refl, started (m.policy a.policy) a.slots.now a.values.now (lists_of a.fates.now a.whens.now a.bys.now) (m.state a.policy) (g.met.P.Policy.held a.policy) _ _ (search rules) (search rules))
+
+pub loop-i-preserved : goal.loop-i-preserved
+loop-i-preserved g c =
+    let a = c.args in
+    let m = g.P.Policy in
+    let at = c.loop-i in
+    let road = yields_placed a.slots.now a.values.now c.requires.same c.zip.result c.enumerate-i-items.result c.iter.ensures.rest c.zip.ensures.first c.zip.ensures.second.0 c.enumerate-i-items.ensures.source c.enumerate-i-items.ensures.count c.into_iter-i-iterator.ensures.into_iter_gives in
+    let here = at_place a.slots.now a.values.now c.requires.same _ _ (YieldsList-turn road at.yielded _ at.yielded_by _ c.next.new.self _ c.in-Some.is c.next.ensures.steps) in
+    let same = c.turn-w.ensures.same ∙ at.invariant.0 in
+    let holds = rw same at (g.met.P.Policy.held c.turn-w.new.self) in
+    let most : c.max-most.result ≡ max at.most (c.turn-w.result.tail - c.turn-w.result.head) = search rules in
+    let G = turn_taken c.requires at.invariant.1 at.invariant.0 _ here (m.state c.turn-w.new.self) holds c.turn-w.ensures.done c.turn-w.auto.values most in
+    (same, rw (length_push at.yielded (c.in-Some.i, (c.in-Some.slot, c.in-Some.value))) G)
+
+pub returns : goal.returns
+returns g c =
+    let a = c.args in
+    let m = g.P.Policy in
+    let at = c.loop-i in
+    let road = yields_placed a.slots.now a.values.now c.requires.same c.zip.result c.enumerate-i-items.result c.iter.ensures.rest c.zip.ensures.first c.zip.ensures.second.0 c.enumerate-i-items.ensures.source c.enumerate-i-items.ensures.count c.into_iter-i-iterator.ensures.into_iter_gives in
+    let all = YieldsList-end road at.yielded _ at.yielded_by _ c.next.new.self c.in-None.is c.next.ensures.steps in
+    ends_taken c.requires at.invariant.1 at.invariant.0 (omega (arith, all.1, as_many a.slots.now a.values.now c.requires.same))
+    (record { 0 = at.last.0 + (at.w.tail - at.w.head) }) refl (m.state c.end_slots.new.self) c.end_slots.ensures

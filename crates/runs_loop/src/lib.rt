@@ -1,0 +1,139 @@
+// The one run of every policy over an accepted trace. What a packet brings, and what the ends of slots do, is the policy's.
+#![tactic(auto)]
+
+ghost use Rattle.std.specs.Prelude.{◌≡◌, [], List, ◌-◌, ◌<◌, length};
+ghost use Rattle.model.specs.declared.Packet.{Packet};
+ghost use Rattle.model.specs.declared.RunAnswer.TheVariants.{Ran};
+ghost use Rattle.model.specs.Calls.{ran};
+ghost use Rattle.model.specs.Course.{Policy, course, first, slot_ends};
+ghost use Rattle.model.specs.Lent.{lists_before, lists_after};
+ghost use Rattle.model.specs.Packets.{arrivals, slots_until};
+ghost use Rattle.model.specs.Record.{lists_of};
+ghost use Rattle.laws.specs.MostQueue.{turn};
+ghost use Rattle.steps.specs.Calls.{Ready, outcome};
+ghost use Rattle.steps.specs.Run.{Runnable};
+ghost use Rattle.steps.specs.Run as run;
+ghost use Rattle.steps.specs.Step.{arrival};
+ghost use Rattle.steps.specs.Window.{Within};
+ghost use Rattle.runs_loop.specs.Done.{DoesIn};
+
+use model::{Packet, PacketNumber, Slot, Totals};
+use steps::{PLACES, Window};
+use totals::totals;
+
+// A policy whose queue is a window, with what it keeps beside.
+pub trait Policy: Drop {
+    // What it holds: the queue, with what is kept beside.
+    ghost State: { Type 0 };
+
+    // What it is, as model says it.
+    ghost policy: { Self → Policy State };
+
+    // A queue, with what the policy keeps now.
+    ghost state: { Self → List Packet → State };
+
+    // One packet of a trace: the ends of the slots before its own, then its arrival.
+    fn turn(
+        &mut self,
+        numbers: &mut [u32],
+        values: &mut [u32],
+        fates: &mut [u32],
+        whens: &mut [u32],
+        bys: &mut [u32],
+        w: Window,
+        last: Slot,
+        slot: Slot,
+        p: Packet,
+    ) -> Window
+        requires within { Within w numbers.old values.old }
+        requires head_in_bounds { w.tail - w.head < length values.old }
+        ensures same { policy self.new ≡ policy self.old }
+        ensures done { DoesIn (state self.old) (state self.new) w result numbers values fates whens bys (λ s. turn (policy self.old) last s (arrival slot p)) };
+
+    // The ends of the slots from `from` on, up to slot `until`.
+    fn end_slots(
+        &mut self,
+        numbers: &mut [u32],
+        values: &mut [u32],
+        fates: &mut [u32],
+        whens: &mut [u32],
+        bys: &mut [u32],
+        w: Window,
+        from: Slot,
+        until: Slot,
+    ) -> Window
+        requires { Within w numbers.old values.old }
+        ensures { DoesIn (state self.old) (state self.new) w result numbers values fates whens bys (slot_ends (policy self.old) (slots_until from until) from) };
+
+    // What it holds is the queue.
+    ghost held: { (s : Self) (queue : List Packet) → (policy s).held (state s queue) ≡ queue };
+}
+
+// Writes the record of the run, and answers the most held just after any arrival: the greatest length of the queue.
+fn run<P: Policy>(
+    slots: &[u32],
+    values: &[u32],
+    mut policy: P,
+    fates: &mut [u32],
+    whens: &mut [u32],
+    bys: &mut [u32],
+) -> u32
+    requires { Runnable (P.policy policy) (P.state policy []) slots.now values.now }
+    ensures { run.Ran (P.policy policy) (P.state policy []) slots.now values.now (lists_before fates whens bys) (lists_after fates whens bys) result }
+{
+    let mut numbers = [0u32; PLACES];
+    let mut held_values = [0u32; PLACES];
+    let mut w = Window { head: 0, tail: 0 };
+    let mut last = Slot(1);
+    let mut most = 0;
+    for (i, (slot, value)) in slots.iter().zip(values).enumerate() {
+        let slot = Slot(*slot);
+        let number = (i + 1) as u32;
+        let p = Packet {
+            number: PacketNumber(number),
+            value: *value,
+        };
+        w = policy.turn(
+            &mut numbers,
+            &mut held_values,
+            fates,
+            whens,
+            bys,
+            w,
+            last,
+            slot,
+            p,
+        );
+        most = most.max(w.tail - w.head);
+        last = slot;
+    }
+    let left = (w.tail - w.head) as u32;
+    let until = Slot(last.0 + left);
+    policy.end_slots(
+        &mut numbers,
+        &mut held_values,
+        fates,
+        whens,
+        bys,
+        w,
+        last,
+        until,
+    );
+    most as u32
+}
+
+// A policy's run over an accepted trace, and its totals.
+pub fn finish<P: Policy>(
+    slots: &[u32],
+    values: &[u32],
+    policy: P,
+    fates: &mut [u32],
+    whens: &mut [u32],
+    bys: &mut [u32],
+) -> Totals
+    requires { Ready (P.policy policy) (P.state policy []) slots.now values.now (lists_of fates.old whens.old bys.old) }
+    ensures { outcome (Ran result) (lists_after fates whens bys) ≡ ran slots.now values.now (course (P.policy policy) first (P.state policy []) (arrivals slots.now values.now)) }
+{
+    let most = run(slots, values, policy, fates, whens, bys);
+    totals(values, fates, most)
+}
