@@ -1,2 +1,3 @@
-pub mod Pairs
 pub mod Going
+pub mod Pairs
+pub mod Queueing

@@ -1,7 +1,7 @@
 // The one run of every policy over an accepted trace. What a packet brings, and what the ends of slots do, is the policy's.
 #![tactic(auto)]
 
-ghost use Rattle.std.specs.Prelude.{◌≡◌, [], List, ◌-◌, ◌<◌, length};
+ghost use Rattle.std.specs.Prelude.{◌≡◌, [], List, ◌-◌, ◌<◌, ◌≤◌, length};
 ghost use Rattle.model.specs.declared.Packet.{Packet};
 ghost use Rattle.model.specs.declared.RunAnswer.TheVariants.{Ran};
 ghost use Rattle.model.specs.Calls.{ran};
@@ -9,7 +9,6 @@ ghost use Rattle.model.specs.Course.{Policy, course, first, slot_ends};
 ghost use Rattle.model.specs.Lent.{lists_before, lists_after};
 ghost use Rattle.model.specs.Packets.{arrivals, slots_until};
 ghost use Rattle.model.specs.Record.{lists_of};
-ghost use Rattle.laws.specs.MostQueue.{turn};
 ghost use Rattle.steps.specs.Calls.{Ready, outcome};
 ghost use Rattle.steps.specs.Run.{Runnable};
 ghost use Rattle.steps.specs.Run as run;
@@ -32,23 +31,21 @@ pub trait Policy: Drop {
     // A queue, with what the policy keeps now.
     ghost state: { Self → List Packet → State };
 
-    // One packet of a trace: the ends of the slots before its own, then its arrival.
-    fn turn(
-        &mut self,
+    // An arrival, for which there is a place.
+    fn arrive(
+        &self,
         numbers: &mut [u32],
         values: &mut [u32],
         fates: &mut [u32],
         whens: &mut [u32],
         bys: &mut [u32],
         w: Window,
-        last: Slot,
         slot: Slot,
         p: Packet,
     ) -> Window
         requires within { Within w numbers.old values.old }
-        requires head_in_bounds { w.tail - w.head < length values.old }
-        ensures same { policy self.new ≡ policy self.old }
-        ensures done { DoesIn (state self.old) (state self.new) w result numbers values fates whens bys (λ s. turn (policy self.old) last s (arrival slot p)) };
+        requires has_place { w.tail - w.head < length values.old }
+        ensures { DoesIn (state self.now) (state self.now) w result numbers values fates whens bys ((policy self.now).arrive (arrival slot p)) };
 
     // The ends of the slots from `from` on, up to slot `until`.
     fn end_slots(
@@ -63,7 +60,9 @@ pub trait Policy: Drop {
         until: Slot,
     ) -> Window
         requires { Within w numbers.old values.old }
-        ensures { DoesIn (state self.old) (state self.new) w result numbers values fates whens bys (slot_ends (policy self.old) (slots_until from until) from) };
+        ensures same { policy self.new ≡ policy self.old }
+        ensures shorter { result.tail - result.head ≤ w.tail - w.head }
+        ensures done { DoesIn (state self.old) (state self.new) w result numbers values fates whens bys (slot_ends (policy self.old) (slots_until from until) from) };
 
     // What it holds is the queue.
     ghost held: { (s : Self) (queue : List Packet) → (policy s).held (state s queue) ≡ queue };
@@ -93,7 +92,7 @@ fn run<P: Policy>(
             number: PacketNumber(number),
             value: *value,
         };
-        w = policy.turn(
+        let left = policy.end_slots(
             &mut numbers,
             &mut held_values,
             fates,
@@ -101,6 +100,15 @@ fn run<P: Policy>(
             bys,
             w,
             last,
+            slot,
+        );
+        w = policy.arrive(
+            &mut numbers,
+            &mut held_values,
+            fates,
+            whens,
+            bys,
+            left,
             slot,
             p,
         );

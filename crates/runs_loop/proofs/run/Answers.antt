@@ -20,10 +20,12 @@ loop-i-preserved g c =
     let at = c.loop-i in
     let road = yields_placed a.slots.now a.values.now c.requires.same c.zip.result c.enumerate-i-items.result c.iter.ensures.rest c.zip.ensures.first c.zip.ensures.second.0 c.enumerate-i-items.ensures.source c.enumerate-i-items.ensures.count c.into_iter-i-iterator.ensures.into_iter_gives in
     let here = at_place a.slots.now a.values.now c.requires.same _ _ (YieldsList-turn road at.yielded _ at.yielded_by _ c.next.new.self _ c.in-Some.is c.next.ensures.steps) in
-    let same = c.turn-w.ensures.same ∙ at.invariant.0 in
-    let holds = rw same at (g.met.P.Policy.held c.turn-w.new.self) in
-    let most : c.max-most.result ≡ max at.most (c.turn-w.result.tail - c.turn-w.result.head) = search rules in
-    let G = turn_taken c.requires at.invariant.1 at.invariant.0 _ here (m.state c.turn-w.new.self) holds c.turn-w.ensures.done c.turn-w.auto.values most in
+    let ended = c.end_slots-left in
+    let arrived = c.arrive-w in
+    let same = ended.ensures.same ∙ at.invariant.0 in
+    let holds = rw same at (g.met.P.Policy.held ended.new.self) in
+    let most : c.max-most.result ≡ max at.most (arrived.result.tail - arrived.result.head) = search rules in
+    let G = turn_taken c.requires at.invariant.1 at.invariant.0 _ here (m.state ended.new.self) holds ended.ensures.same ended.ensures.done arrived.ensures (arrived.auto.values ∙ ended.auto.values) most in
     (same, rw (length_push at.yielded (c.in-Some.i, (c.in-Some.slot, c.in-Some.value))) G)
 
 pub returns : goal.returns
@@ -34,4 +36,4 @@ returns g c =
     let road = yields_placed a.slots.now a.values.now c.requires.same c.zip.result c.enumerate-i-items.result c.iter.ensures.rest c.zip.ensures.first c.zip.ensures.second.0 c.enumerate-i-items.ensures.source c.enumerate-i-items.ensures.count c.into_iter-i-iterator.ensures.into_iter_gives in
     let all = YieldsList-end road at.yielded _ at.yielded_by _ c.next.new.self c.in-None.is c.next.ensures.steps in
     ends_taken c.requires at.invariant.1 at.invariant.0 (omega (arith, all.1, as_many a.slots.now a.values.now c.requires.same))
-    (record { 0 = at.last.0 + (at.w.tail - at.w.head) }) refl (m.state c.end_slots.new.self) c.end_slots.ensures
+    (record { 0 = at.last.0 + (at.w.tail - at.w.head) }) refl (m.state c.end_slots.new.self) c.end_slots.ensures.done

@@ -6,12 +6,17 @@ use Rattle.steps.proofs.Answering.{refused, not_refused}
 use Rattle.runs_rule.proofs.Ready.{greedy_ready}
 use Rattle.runs_rule.proofs.greedy.Goals as goal
 
-pub finish-requires : goal.finish-requires
-finish-requires c = let start = c in
-    let a = start.args in
+pub invariant_of-finish : goal.invariant_of-finish
+invariant_of-finish c =
+    let a = c.args in
     let accepted = ap verdict_of (sym c.in-Accepted.is) ∙ c.check_plain.ensures in
-    let ready = greedy_ready a.slots.now a.values.now a.room _ accepted in
-    record { ready = ready.0; le_room = ready.1 }
+    record { le_room = (greedy_ready a.slots.now a.values.now a.room _ accepted).1 }
+
+pub finish-requires : goal.finish-requires
+finish-requires c =
+    let a = c.args in
+    let accepted = ap verdict_of (sym c.in-Accepted.is) ∙ c.check_plain.ensures in
+    (greedy_ready a.slots.now a.values.now a.room _ accepted).0
 
 pub returns-in-Refused : goal.returns-in-Refused
 unfolding greedy_call
@@ -20,8 +25,7 @@ returns-in-Refused c =
 
 pub returns-in-Accepted : goal.returns-in-Accepted
 unfolding greedy_call
-returns-in-Accepted c = let start = c in
-    let a = start.args in
+returns-in-Accepted c =
     let accepted = ap verdict_of (sym c.in-Accepted.is) ∙ c.check_plain.ensures in
     c.finish.ensures
     ∙ not_refused _ _ _ accepted
