@@ -1,3 +1,2 @@
 pub mod Going
-pub mod Pairs
 pub mod Queueing

@@ -85,12 +85,13 @@ fn run<P: Policy>(
     let mut w = Window { head: 0, tail: 0 };
     let mut last = Slot(1);
     let mut most = 0;
-    for (i, (slot, value)) in slots.iter().zip(values).enumerate() {
+    for (i, slot) in slots.iter().enumerate() {
         let slot = Slot(*slot);
+        let value = values[i];
         let number = (i + 1) as u32;
         let p = Packet {
             number: PacketNumber(number),
-            value: *value,
+            value,
         };
         let left = policy.end_slots(
             &mut numbers,

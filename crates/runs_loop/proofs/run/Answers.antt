@@ -4,7 +4,6 @@ use Rattle.std.proofs.lemmas.Iterator.Consumers.{YieldsList-turn, YieldsList-end
 use Rattle.std.proofs.lemmas.List.{length_push}
 use Rattle.model.specs.Record.{lists_of}
 use Rattle.runs_loop.proofs.Going.{started, turn_taken, ends_taken}
-use Rattle.runs_loop.proofs.Pairs.{at_place, as_many, yields_placed}
 use Rattle.runs_loop.proofs.run.Goals as goal
 
 pub loop-i-init : goal.loop-i-init
@@ -18,22 +17,18 @@ loop-i-preserved g c =
     let a = c.args in
     let m = g.P.Policy in
     let at = c.loop-i in
-    let road = yields_placed a.slots.now a.values.now c.requires.same c.zip.result c.enumerate-i-items.result c.iter.ensures.rest c.zip.ensures.first c.zip.ensures.second.0 c.enumerate-i-items.ensures.source c.enumerate-i-items.ensures.count c.into_iter-i-iterator.ensures.into_iter_gives in
-    let here = at_place a.slots.now a.values.now c.requires.same _ _ (YieldsList-turn road at.yielded _ at.yielded_by _ c.next.new.self _ c.in-Some.is c.next.ensures.steps) in
     let ended = c.end_slots-left in
     let arrived = c.arrive-w in
     let same = ended.ensures.same ∙ at.invariant.0 in
     let holds = rw same at (g.met.P.Policy.held ended.new.self) in
     let most : c.max-most.result ≡ max at.most (arrived.result.tail - arrived.result.head) = search rules in
-    let G = turn_taken c.requires at.invariant.1 at.invariant.0 _ here (m.state ended.new.self) holds ended.ensures.same ended.ensures.done arrived.ensures (arrived.auto.values ∙ ended.auto.values) most in
-    (same, rw (length_push at.yielded (c.in-Some.i, (c.in-Some.slot, c.in-Some.value))) G)
+    let G = turn_taken c.requires at.invariant.1 at.invariant.0 (at.i, (_, _)) (c.loop-i-test.true, refl) (m.state ended.new.self) holds ended.ensures.same ended.ensures.done arrived.ensures (arrived.auto.values ∙ ended.auto.values) most in
+    (same, G)
 
 pub returns : goal.returns
 returns g c =
     let a = c.args in
     let m = g.P.Policy in
     let at = c.loop-i in
-    let road = yields_placed a.slots.now a.values.now c.requires.same c.zip.result c.enumerate-i-items.result c.iter.ensures.rest c.zip.ensures.first c.zip.ensures.second.0 c.enumerate-i-items.ensures.source c.enumerate-i-items.ensures.count c.into_iter-i-iterator.ensures.into_iter_gives in
-    let all = YieldsList-end road at.yielded _ at.yielded_by _ c.next.new.self c.in-None.is c.next.ensures.steps in
-    ends_taken c.requires at.invariant.1 at.invariant.0 (omega (arith, all.1, as_many a.slots.now a.values.now c.requires.same))
+    ends_taken c.requires at.invariant.1 at.invariant.0 (omega (arith, c.loop-i-test.false, at.auto.i-end))
     (record { 0 = at.last.0 + (at.w.tail - at.w.head) }) refl (m.state c.end_slots.new.self) c.end_slots.ensures.done

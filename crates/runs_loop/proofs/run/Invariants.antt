@@ -13,4 +13,4 @@ invariant-loop-i g l =
     let now = lists_of l.fates l.whens l.bys in
     (m.policy l.policy ≡ m.policy l.fn.policy)
     × Going (m.policy l.fn.policy) (m.state l.fn.policy []) l.slots l.values before
-    (m.state l.policy (window_of l.w l.numbers l.held_values)) l.numbers l.held_values l.w.head l.w.tail l.last.0 l.most (length l.yielded) now
+    (m.state l.policy (window_of l.w l.numbers l.held_values)) l.numbers l.held_values l.w.head l.w.tail l.last.0 l.most l.i now

@@ -1,16 +1,41 @@
--- A refusal of the test is the answer; an accepted trace is one on which the policy can run.
-use mathlib.Core.Path.{sym, ap, ◌∙◌}
-use Rattle.model.specs.Calls.{mf_call}
+-- A refusal of the test is the answer; an accepted trace is one on which the policy can run, and the lent part of the marks holds a 0 for each packet.
+use mathlib.Core.Path.{sym, ap, subst, ◌∙◌}
+use mathlib.Core.List.{[]}
+use lib.ListN.{length}
+use lib.Seq.{length-take-le}
+use Rattle.model.specs.Calls.{ran, mf_call}
+use Rattle.model.specs.Course.{course, first}
+use Rattle.model.specs.Limits.{record_limits}
+use Rattle.model.specs.Packets.{arrivals}
+use Rattle.model.specs.Policies.MF.{Marked, mf_policy}
+use Rattle.model.specs.Record.{lists_of}
 use Rattle.trace.specs.Checked.{verdict_of}
+use Rattle.steps.specs.Calls.{Ready}
 use Rattle.steps.proofs.Answering.{refused, not_refused}
+use Rattle.steps.proofs.Places.{first_zeros}
+use Rattle.mf_marks.specs.Mark.{beside}
 use Rattle.runs_policy.proofs.Ready.{mf_ready}
 use Rattle.runs_policy.proofs.mf.Goals as goal
 
-pub finish_mf-requires : goal.finish_mf-requires
-finish_mf-requires c = let start = c in
-    let a = start.args in
+pub slice_bounds-marks-end : goal.slice_bounds-marks-end
+slice_bounds-marks-end c =
+    let a = c.args in
     let accepted = ap verdict_of (sym c.in-Accepted.is) ∙ c.check_mf.ensures in
-    mf_ready a.slots.now a.values.now a.room _ a.marking accepted
+    (mf_ready a.slots.now a.values.now a.room _ a.marking accepted).runnable.few
+
+pub slice_bounds-marks-end-in-Accepted : goal.slice_bounds-marks-end-in-Accepted
+slice_bounds-marks-end-in-Accepted c =
+    let a = c.args in
+    let accepted = ap verdict_of (sym c.in-Accepted.is) ∙ c.check_mf.ensures in
+    sym (length-take-le (length a.slots.now) _ (mf_ready a.slots.now a.values.now a.room _ a.marking accepted).runnable.few)
+
+pub finish-requires : goal.finish-requires
+finish-requires c =
+    let a = c.args in
+    let accepted = ap verdict_of (sym c.in-Accepted.is) ∙ c.check_mf.ensures in
+    let ready = mf_ready a.slots.now a.values.now a.room _ a.marking accepted in
+    subst (λ (s : Marked). Ready (mf_policy a.room a.marking a.slots.now) s a.slots.now a.values.now (lists_of a.fates.now a.whens.now a.bys.now))
+    (sym (ap (beside []) (first_zeros (length a.slots.now) record_limits.packets ready.runnable.few))) ready
 
 pub returns-in-Refused : goal.returns-in-Refused
 unfolding mf_call
@@ -19,8 +44,11 @@ returns-in-Refused c =
 
 pub returns-in-Accepted : goal.returns-in-Accepted
 unfolding mf_call
-returns-in-Accepted c = let start = c in
-    let a = start.args in
+returns-in-Accepted c =
+    let a = c.args in
     let accepted = ap verdict_of (sym c.in-Accepted.is) ∙ c.check_mf.ensures in
-    c.finish_mf.ensures
+    let ready = mf_ready a.slots.now a.values.now a.room _ a.marking accepted in
+    c.finish.ensures
+    ∙ ap (λ (s : Marked). ran a.slots.now a.values.now (course (mf_policy a.room a.marking a.slots.now) first s (arrivals a.slots.now a.values.now)))
+    (ap (beside []) (first_zeros (length a.slots.now) record_limits.packets ready.runnable.few))
     ∙ not_refused _ _ _ accepted

@@ -15,20 +15,20 @@ use Rattle.runs_policy.proofs.Ready.{entry_for_each_lem, plan_runs, plan_course}
 use Rattle.runs_policy.proofs.plan.Goals as goal
 
 pub slice_bounds-keep-end : goal.slice_bounds-keep-end
-slice_bounds-keep-end c = let n = c.entries-n.result in
-    let less : n ≤ record_limits.packets = omega (arith, c.entries-n.ensures) in
+slice_bounds-keep-end c = let n = c.min-n.result in
+    let less : n ≤ record_limits.packets = omega (arith, c.min-n.ensures) in
     sym (length-take-le n _ less)
 
 pub slice_bounds-kept-end-in-Accepted : goal.slice_bounds-kept-end-in-Accepted
-slice_bounds-kept-end-in-Accepted c = let n = c.entries-n.result in
-    let less : n ≤ record_limits.packets = omega (arith, c.entries-n.ensures) in
+slice_bounds-kept-end-in-Accepted c = let n = c.min-n.result in
+    let less : n ≤ record_limits.packets = omega (arith, c.min-n.ensures) in
     let keep = c.keep-tested in
     let long = keep.auto.kept ∙ length-take-le n _ less in
     part_fits n keep.new.kept _ long
 
-pub slice_bounds-finish-end : goal.slice_bounds-finish-end
-slice_bounds-finish-end c = let n = c.entries-n.result in
-    let less : n ≤ record_limits.packets = omega (arith, c.entries-n.ensures) in
+pub slice_bounds-policy-end : goal.slice_bounds-policy-end
+slice_bounds-policy-end c = let n = c.min-n.result in
+    let less : n ≤ record_limits.packets = omega (arith, c.min-n.ensures) in
     let keep = c.keep-tested in
     let long = keep.auto.kept ∙ length-take-le n _ less in
     sym (ap length (take_at keep.new.kept _ n long) ∙ long)
@@ -36,14 +36,14 @@ slice_bounds-finish-end c = let n = c.entries-n.result in
 pub finish-requires : goal.finish-requires
 finish-requires c = let a = c.args in
     let lists = lists_of a.fates.now a.whens.now a.bys.now in
-    let n = c.entries-n.result in
-    let less : n ≤ record_limits.packets = omega (arith, c.entries-n.ensures) in
+    let n = c.min-n.result in
+    let less : n ≤ record_limits.packets = omega (arith, c.min-n.ensures) in
     let keep = c.keep-tested in
     let accepted = ap verdict_of (sym c.in-Accepted.is) ∙ keep.ensures.0 in
     let zeros = length-take-le n _ less in
     let long = keep.auto.kept ∙ zeros in
-    plan_runs a.slots.now a.values.now a.room lists accepted _ keep.new.kept _ _
-    (zeros ∙ entry_for_each_lem a.slots.now a.values.now a.room lists accepted n c.entries-n.ensures)
+    plan_runs a.slots.now a.values.now a.room lists accepted _ keep.new.kept _
+    (zeros ∙ entry_for_each_lem a.slots.now a.values.now a.room lists accepted n c.min-n.ensures)
     (take_at keep.new.kept _ n long) keep.ensures.1
 
 pub returns-in-Refused : goal.returns-in-Refused
@@ -55,15 +55,15 @@ pub returns-in-Accepted : goal.returns-in-Accepted
 unfolding plan_call
 returns-in-Accepted c = let a = c.args in
     let lists = lists_of a.fates.now a.whens.now a.bys.now in
-    let n = c.entries-n.result in
-    let less : n ≤ record_limits.packets = omega (arith, c.entries-n.ensures) in
+    let n = c.min-n.result in
+    let less : n ≤ record_limits.packets = omega (arith, c.min-n.ensures) in
     let keep = c.keep-tested in
     let accepted = ap verdict_of (sym c.in-Accepted.is) ∙ keep.ensures.0 in
     let zeros = length-take-le n _ less in
     let long = keep.auto.kept ∙ zeros in
     c.finish.ensures
     ∙ ap (ran a.slots.now a.values.now)
-    (plan_course a.slots.now a.values.now a.room lists accepted _ keep.new.kept _ _
-    (zeros ∙ entry_for_each_lem a.slots.now a.values.now a.room lists accepted n c.entries-n.ensures)
+    (plan_course a.slots.now a.values.now a.room lists accepted _ keep.new.kept _
+    (zeros ∙ entry_for_each_lem a.slots.now a.values.now a.room lists accepted n c.min-n.ensures)
     (take_at keep.new.kept _ n long) keep.ensures.1)
     ∙ not_refused _ _ _ accepted
