@@ -49,7 +49,7 @@ module _ {S : Type 0} {P : Policy S} {s₀ : S} {slots values : List ℕ} {befor
       ∙ ap (entered (P.arrive (arrival_at here) ends.next).entries) E'.written
       ∙ sym (entered_both ends.entries (P.arrive (arrival_at here) ends.next).entries now) in
       let G' = going_turn P s₀ slots values before R s numbers held head tail last most n now G inside
-          (state (window_of w numbers'' held'')) w numbers'' held'' after most' A'.within (holds _) A'.held written long m in
+      (state (window_of w numbers'' held'')) w numbers'' held'' after most' A'.within (holds _) A'.held written long m in
       subst (λ (y : ℕ × (ℕ × ℕ)). Going P s₀ slots values before (state (window_of w numbers'' held'')) numbers'' held'' w.head w.tail y.1.0 most' (n + 1) after) (sym is) G'
 
   pub ends_taken : length slots ≤ n → (until : Slot) → until.0 ≡ last + (tail - head)

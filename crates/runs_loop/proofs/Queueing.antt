@@ -1,5 +1,5 @@
 -- Where nothing is kept beside the queue, the queue is the state: what is told of a step of the queue is what the run asks of a policy.
-use Rattle.std.proofs.Common.{◌≡◌, ℕ, ◌-◌, ◌≤◌, List, length, sym, ap, ◌∙◌, arith}
+use Rattle.std.proofs.Common.{◌≡◌, ℕ, ◌-◌, ◌≤◌, List, length, ap, arith}
 use Rattle.model.specs.declared.Packet.{Packet}
 use Rattle.model.specs.declared.Slot.{Slot}
 use Rattle.model.specs.Course.{Step, Decided, by_rule, slot_ends}

@@ -1,23 +1,24 @@
 // The one run of every policy over an accepted trace. What a packet brings, and what the ends of slots do, is the policy's.
 #![tactic(auto)]
 
+mod run;
+
 ghost use Rattle.std.specs.Prelude.{◌≡◌, [], List, ◌-◌, ◌<◌, ◌≤◌, length};
 ghost use Rattle.model.specs.declared.Packet.{Packet};
 ghost use Rattle.model.specs.declared.RunAnswer.TheVariants.{Ran};
 ghost use Rattle.model.specs.Calls.{ran};
 ghost use Rattle.model.specs.Course.{Policy, course, first, slot_ends};
-ghost use Rattle.model.specs.Lent.{lists_before, lists_after};
+ghost use Rattle.model.specs.Lent.{lists_after};
 ghost use Rattle.model.specs.Packets.{arrivals, slots_until};
 ghost use Rattle.model.specs.Record.{lists_of};
 ghost use Rattle.steps.specs.Calls.{Ready, outcome};
-ghost use Rattle.steps.specs.Run.{Runnable};
-ghost use Rattle.steps.specs.Run as run;
 ghost use Rattle.steps.specs.Step.{arrival};
 ghost use Rattle.steps.specs.Window.{Within};
 ghost use Rattle.runs_loop.specs.Done.{DoesIn};
 
-use model::{Packet, PacketNumber, Slot, Totals};
-use steps::{PLACES, Window};
+use crate::run::run;
+use model::{Packet, Slot, Totals};
+use steps::Window;
 use totals::totals;
 
 // A policy whose queue is a window, with what it keeps beside.
@@ -66,69 +67,6 @@ pub trait Policy: Drop {
 
     // What it holds is the queue.
     ghost held: { (s : Self) (queue : List Packet) → (policy s).held (state s queue) ≡ queue };
-}
-
-// Writes the record of the run, and answers the most held just after any arrival: the greatest length of the queue.
-fn run<P: Policy>(
-    slots: &[u32],
-    values: &[u32],
-    mut policy: P,
-    fates: &mut [u32],
-    whens: &mut [u32],
-    bys: &mut [u32],
-) -> u32
-    requires { Runnable (P.policy policy) (P.state policy []) slots.now values.now }
-    ensures { run.Ran (P.policy policy) (P.state policy []) slots.now values.now (lists_before fates whens bys) (lists_after fates whens bys) result }
-{
-    let mut numbers = [0u32; PLACES];
-    let mut held_values = [0u32; PLACES];
-    let mut w = Window { head: 0, tail: 0 };
-    let mut last = Slot(1);
-    let mut most = 0;
-    for (i, slot) in slots.iter().enumerate() {
-        let slot = Slot(*slot);
-        let value = values[i];
-        let number = (i + 1) as u32;
-        let p = Packet {
-            number: PacketNumber(number),
-            value,
-        };
-        let left = policy.end_slots(
-            &mut numbers,
-            &mut held_values,
-            fates,
-            whens,
-            bys,
-            w,
-            last,
-            slot,
-        );
-        w = policy.arrive(
-            &mut numbers,
-            &mut held_values,
-            fates,
-            whens,
-            bys,
-            left,
-            slot,
-            p,
-        );
-        most = most.max(w.tail - w.head);
-        last = slot;
-    }
-    let left = (w.tail - w.head) as u32;
-    let until = Slot(last.0 + left);
-    policy.end_slots(
-        &mut numbers,
-        &mut held_values,
-        fates,
-        whens,
-        bys,
-        w,
-        last,
-        until,
-    );
-    most as u32
 }
 
 // A policy's run over an accepted trace, and its totals.

@@ -1,9 +1,9 @@
 -- What is told of MF's steps, on a queue beside marks, is what the run asks of a policy.
-use Rattle.std.proofs.Common.{◌≡◌, ℕ, ◌-◌, ◌≤◌, List, length, sym, ap, ◌∙◌, arith}
+use Rattle.std.proofs.Common.{◌≡◌, ℕ, ◌-◌, ◌≤◌, List, length, ap, arith}
 use Rattle.model.specs.declared.Marking.{Marking}
 use Rattle.model.specs.declared.Packet.{Packet}
 use Rattle.model.specs.declared.Slot.{Slot}
-use Rattle.model.specs.Course.{Step, slot_ends}
+use Rattle.model.specs.Course.{slot_ends}
 use Rattle.model.specs.Packets.{Arrival, slots_until}
 use Rattle.model.specs.Policies.Greedy.{greedy_rule}
 use Rattle.model.specs.Policies.MF.{Marked, mf_policy}

@@ -15,5 +15,5 @@ returns c =
     let keep = c.is_kept-keep in
     let done = c.hold_or_reject in
     let steps = kept_steps a.w a.numbers.now a.values.now free keep.result (arrival a.slot a.p) (lists_of a.fates.now a.whens.now a.bys.now)
-        (lists_of done.new.fates done.new.whens done.new.bys) done.result done.new.numbers done.new.values done.ensures in
+    (lists_of done.new.fates done.new.whens done.new.bys) done.result done.new.numbers done.new.values done.ensures in
     by_queue (rw keep.ensures at steps)

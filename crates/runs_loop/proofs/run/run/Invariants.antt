@@ -1,10 +1,10 @@
 -- The invariant: the policy is the same, and the run is going. The window's queue, with what the policy keeps, is the state, and what is left of the course
 -- completes the entries and the greatest length.
-use Rattle.std.proofs.Common.{◌≡◌, [], length}
+use Rattle.std.proofs.Common.{◌≡◌, []}
 use Rattle.model.specs.Record.{lists_of}
 use Rattle.steps.specs.Window.{window_of}
 use Rattle.steps.proofs.Running.{Going}
-use Rattle.runs_loop.proofs.run.Given as goal
+use Rattle.runs_loop.proofs.run.run.Given as goal
 
 abbrev pub invariant-loop-i : goal.invariant-loop-i
 invariant-loop-i g l =

@@ -1,10 +1,8 @@
 -- The invariant holds before the first packet, each packet takes the run one place further, and the ends of slots complete it.
 use Rattle.std.proofs.Common.{◌≡◌, ◌+◌, ◌-◌, max, refl, ◌∙◌, arith, rules}
-use Rattle.std.proofs.lemmas.Iterator.Consumers.{YieldsList-turn, YieldsList-end}
-use Rattle.std.proofs.lemmas.List.{length_push}
 use Rattle.model.specs.Record.{lists_of}
 use Rattle.runs_loop.proofs.Going.{started, turn_taken, ends_taken}
-use Rattle.runs_loop.proofs.run.Goals as goal
+use Rattle.runs_loop.proofs.run.run.Goals as goal
 
 pub loop-i-init : goal.loop-i-init
 loop-i-init g c =
