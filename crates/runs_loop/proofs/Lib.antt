@@ -1,2 +1,3 @@
 pub mod Going
+pub mod Lists
 pub mod Queueing

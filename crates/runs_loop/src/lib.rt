@@ -1,27 +1,28 @@
-// The one run of every policy over an accepted trace. What a packet brings, and what the ends of slots do, is the policy's.
+// The one run of every policy over an accepted trace. What an arrival does, and what the ends of slots do, is the policy's.
 #![tactic(auto)]
 
 mod run;
 
-ghost use Rattle.std.specs.Prelude.{◌≡◌, [], List, ◌-◌, ◌<◌, ◌≤◌, length};
+ghost use Rattle.std.specs.Prelude.{◌≡◌, [], List, length};
 ghost use Rattle.model.specs.declared.Packet.{Packet};
 ghost use Rattle.model.specs.declared.RunAnswer.TheVariants.{Ran};
 ghost use Rattle.model.specs.Calls.{ran};
 ghost use Rattle.model.specs.Course.{Policy, course, first, slot_ends};
-ghost use Rattle.model.specs.Lent.{lists_after};
+ghost use Rattle.model.specs.Lent.{lists_before, lists_after};
 ghost use Rattle.model.specs.Packets.{arrivals, slots_until};
-ghost use Rattle.model.specs.Record.{lists_of};
+ghost use Rattle.model.specs.Record.{Lists, entered};
+ghost use Rattle.laws.specs.Recorded.{Sized};
 ghost use Rattle.steps.specs.Calls.{Ready, outcome};
+ghost use Rattle.steps.specs.Run.{Runnable};
 ghost use Rattle.steps.specs.Step.{arrival};
-ghost use Rattle.steps.specs.Window.{Within};
-ghost use Rattle.runs_loop.specs.Done.{DoesIn};
+ghost use Rattle.runs_loop.specs.Done.{ArrivesIn, EndsIn};
 
 use crate::run::run;
 use model::{Packet, Slot, Totals};
 use steps::Window;
 use totals::totals;
 
-// A policy whose queue is a window, with what it keeps beside.
+// A policy whose queue is a window, with what it keeps beside. A window that does not lie within its lists is handed back, and nothing is written.
 pub trait Policy: Drop {
     // What it holds: the queue, with what is kept beside.
     ghost State: { Type 0 };
@@ -32,7 +33,7 @@ pub trait Policy: Drop {
     // A queue, with what the policy keeps now.
     ghost state: { Self → List Packet → State };
 
-    // An arrival, for which there is a place.
+    // An arrival; where no place is free all is as before.
     fn arrive(
         &self,
         numbers: &mut [u32],
@@ -44,9 +45,7 @@ pub trait Policy: Drop {
         slot: Slot,
         p: Packet,
     ) -> Window
-        requires within { Within w numbers.old values.old }
-        requires has_place { w.tail - w.head < length values.old }
-        ensures { DoesIn (state self.now) (state self.now) w result numbers values fates whens bys ((policy self.now).arrive (arrival slot p)) };
+        ensures { ArrivesIn (state self.now) w result numbers values fates whens bys ((policy self.now).arrive (arrival slot p)) };
 
     // The ends of the slots from `from` on, up to slot `until`.
     fn end_slots(
@@ -60,27 +59,43 @@ pub trait Policy: Drop {
         from: Slot,
         until: Slot,
     ) -> Window
-        requires { Within w numbers.old values.old }
         ensures same { policy self.new ≡ policy self.old }
-        ensures shorter { result.tail - result.head ≤ w.tail - w.head }
-        ensures done { DoesIn (state self.old) (state self.new) w result numbers values fates whens bys (slot_ends (policy self.old) (slots_until from until) from) };
+        ensures ends { EndsIn (state self.old) (state self.new) w result numbers values fates whens bys (slot_ends (policy self.old) (slots_until from until) from) };
 
     // What it holds is the queue.
     ghost held: { (s : Self) (queue : List Packet) → (policy s).held (state s queue) ≡ queue };
 }
 
+// A trace on which a policy can run, into any three lists as long as the trace.
+#[derive(Drop)]
+pub struct Accepted<'a, P: Policy> {
+    pub slots: &'a [u32],
+    pub values: &'a [u32],
+    pub policy: P,
+    ghost runnable: { Runnable (P.policy policy) (P.state policy []) slots.now values.now },
+    ghost ready: { ∥ ((lists : Lists) → Sized (length slots.now) lists → Ready (P.policy policy) (P.state policy []) slots.now values.now lists) ∥₁ },
+}
+
 // A policy's run over an accepted trace, and its totals.
 pub fn finish<P: Policy>(
-    slots: &[u32],
-    values: &[u32],
-    policy: P,
+    accepted: Accepted<P>,
     fates: &mut [u32],
     whens: &mut [u32],
     bys: &mut [u32],
 ) -> Totals
-    requires { Ready (P.policy policy) (P.state policy []) slots.now values.now (lists_of fates.old whens.old bys.old) }
-    ensures { outcome (Ran result) (lists_after fates whens bys) ≡ ran slots.now values.now (course (P.policy policy) first (P.state policy []) (arrivals slots.now values.now)) }
+    ensures written { let accepted = accepted.entry in
+        lists_after fates whens bys ≡ entered (course (P.policy accepted.policy) first (P.state accepted.policy []) (arrivals accepted.slots.now accepted.values.now)) (lists_before fates whens bys) }
+    ensures ran { let accepted = accepted.entry in
+        let slots = accepted.slots.now in
+        let values = accepted.values.now in
+        Sized (length slots) (lists_before fates whens bys)
+        → outcome (Ran result) (lists_after fates whens bys) ≡ ran slots values (course (P.policy accepted.policy) first (P.state accepted.policy []) (arrivals slots values)) }
 {
+    let Accepted {
+        slots,
+        values,
+        policy,
+    } = accepted;
     let most = run(slots, values, policy, fates, whens, bys);
     totals(values, fates, most)
 }

@@ -13,7 +13,7 @@ use crate::kept::Kept;
 use crate::marking::MarkAndFlush;
 use model::{Marking, Record, RunAnswer};
 use plan_kept::keep;
-use runs_loop::finish;
+use runs_loop::{Accepted, finish};
 use trace::Checked;
 
 // MF.
@@ -39,7 +39,12 @@ pub fn mf(
                 slots,
                 marks,
             };
-            RunAnswer::Ran(finish(slots, values, policy, fates, whens, bys))
+            let accepted = Accepted {
+                slots,
+                values,
+                policy,
+            };
+            RunAnswer::Ran(finish(accepted, fates, whens, bys))
         }
     }
 }
@@ -63,7 +68,12 @@ pub fn plan(
         Checked::Refused(refusal) => RunAnswer::Refused(refusal),
         Checked::Accepted => {
             let policy = Kept { kept: &kept[..n] };
-            RunAnswer::Ran(finish(slots, values, policy, fates, whens, bys))
+            let accepted = Accepted {
+                slots,
+                values,
+                policy,
+            };
+            RunAnswer::Ran(finish(accepted, fates, whens, bys))
         }
     }
 }

@@ -10,7 +10,7 @@ ghost use Rattle.steps.specs.Calls.{outcome};
 
 use crate::rule::ByRule;
 use model::{Beta, Rule, RunAnswer};
-use runs_loop::finish;
+use runs_loop::{Accepted, finish};
 use trace::Checked;
 
 // Plain greedy.
@@ -28,7 +28,13 @@ pub fn greedy(
         Checked::Refused(refusal) => RunAnswer::Refused(refusal),
         Checked::Accepted => {
             let rule = Rule::Greedy;
-            RunAnswer::Ran(finish(slots, values, ByRule { room, rule }, fates, whens, bys))
+            let policy = ByRule { room, rule };
+            let accepted = Accepted {
+                slots,
+                values,
+                policy,
+            };
+            RunAnswer::Ran(finish(accepted, fates, whens, bys))
         }
     }
 }
@@ -49,7 +55,13 @@ pub fn pg(
         Checked::Refused(refusal) => RunAnswer::Refused(refusal),
         Checked::Accepted => {
             let rule = Rule::PG(beta);
-            RunAnswer::Ran(finish(slots, values, ByRule { room, rule }, fates, whens, bys))
+            let policy = ByRule { room, rule };
+            let accepted = Accepted {
+                slots,
+                values,
+                policy,
+            };
+            RunAnswer::Ran(finish(accepted, fates, whens, bys))
         }
     }
 }

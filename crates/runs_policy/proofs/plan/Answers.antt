@@ -1,9 +1,10 @@
 -- A refusal of the test is the answer. Where it accepts, the list has an entry for each packet, so `keep` told in it which packets the plan keeps, and the run
 -- holds these.
-use Prim.Native.Nat.{◌≤◌}
-use mathlib.Core.Path.{sym, ap, ◌∙◌}
+use Prim.Native.Nat.{ℕ, min}
+use mathlib.Core.Path.{◌≡◌, sym, ap, ◌∙◌}
+use mathlib.Core.List.{List}
 use native.Mathlib.Omega.{arith}
-use lib.ListN.{length}
+use lib.ListN.{length, take, replicate}
 use lib.Seq.{length-take-le, take_at}
 use Rattle.model.specs.Limits.{record_limits}
 use Rattle.model.specs.Record.{lists_of}
@@ -11,40 +12,38 @@ use Rattle.model.specs.Calls.{ran, plan_call}
 use Rattle.trace.specs.Checked.{verdict_of}
 use Rattle.steps.proofs.Answering.{refused, not_refused}
 use Rattle.plan_kept.proofs.Planned.{part_fits}
+use Rattle.runs_loop.proofs.Lists.{into_any}
 use Rattle.runs_policy.proofs.Ready.{entry_for_each_lem, plan_runs, plan_course}
 use Rattle.runs_policy.proofs.plan.Goals as goal
 
+-- the list that `keep` is lent, and what it is then, have an entry for each packet
+lent : (n : ℕ) (slots : List ℕ) → n ≡ min (length slots) record_limits.packets → length {A = ℕ} (take n (replicate record_limits.packets 0)) ≡ n
+lent n slots e = length-take-le n (replicate {A = ℕ} record_limits.packets 0) (omega arith)
+
 pub slice_bounds-keep-end : goal.slice_bounds-keep-end
-slice_bounds-keep-end c = let n = c.min-n.result in
-    let less : n ≤ record_limits.packets = omega (arith, c.min-n.ensures) in
-    sym (length-take-le n _ less)
+slice_bounds-keep-end c = sym (lent c.min-n.result c.args.slots.now c.min-n.ensures)
 
 pub slice_bounds-kept-end-in-Accepted : goal.slice_bounds-kept-end-in-Accepted
-slice_bounds-kept-end-in-Accepted c = let n = c.min-n.result in
-    let less : n ≤ record_limits.packets = omega (arith, c.min-n.ensures) in
-    let keep = c.keep-tested in
-    let long = keep.auto.kept ∙ length-take-le n _ less in
-    part_fits n keep.new.kept _ long
+slice_bounds-kept-end-in-Accepted c =
+    let part = c.keep-tested in
+    part_fits c.min-n.result part.new.kept _ (part.auto.kept ∙ lent c.min-n.result c.args.slots.now c.min-n.ensures)
 
 pub slice_bounds-policy-end : goal.slice_bounds-policy-end
-slice_bounds-policy-end c = let n = c.min-n.result in
-    let less : n ≤ record_limits.packets = omega (arith, c.min-n.ensures) in
-    let keep = c.keep-tested in
-    let long = keep.auto.kept ∙ length-take-le n _ less in
-    sym (ap length (take_at keep.new.kept _ n long) ∙ long)
+slice_bounds-policy-end c =
+    let part = c.keep-tested in
+    let long = part.auto.kept ∙ lent c.min-n.result c.args.slots.now c.min-n.ensures in
+    sym (ap length (take_at part.new.kept _ c.min-n.result long) ∙ long)
 
-pub finish-requires : goal.finish-requires
-finish-requires c = let a = c.args in
-    let lists = lists_of a.fates.now a.whens.now a.bys.now in
-    let n = c.min-n.result in
-    let less : n ≤ record_limits.packets = omega (arith, c.min-n.ensures) in
-    let keep = c.keep-tested in
-    let accepted = ap verdict_of (sym c.in-Accepted.is) ∙ keep.ensures.0 in
-    let zeros = length-take-le n _ less in
-    let long = keep.auto.kept ∙ zeros in
-    plan_runs a.slots.now a.values.now a.room lists accepted _ keep.new.kept _
-    (zeros ∙ entry_for_each_lem a.slots.now a.values.now a.room lists accepted n c.min-n.ensures)
-    (take_at keep.new.kept _ n long) keep.ensures.1
+pub invariant_of-accepted : goal.invariant_of-accepted
+invariant_of-accepted c =
+    let a = c.args in
+    let part = c.keep-tested in
+    let zeros = lent c.min-n.result a.slots.now c.min-n.ensures in
+    let accepted = ap verdict_of (sym c.in-Accepted.is) ∙ part.ensures.0 in
+    let ready = plan_runs a.slots.now a.values.now a.room (lists_of a.fates.now a.whens.now a.bys.now) accepted _ part.new.kept _
+    (zeros ∙ entry_for_each_lem _ _ _ _ accepted c.min-n.result c.min-n.ensures)
+    (take_at part.new.kept _ c.min-n.result (part.auto.kept ∙ zeros)) part.ensures.1 in
+    record { runnable = ready.runnable; ready = ∣ into_any ready ∣₁ }
 
 pub returns-in-Refused : goal.returns-in-Refused
 unfolding plan_call
@@ -53,17 +52,14 @@ returns-in-Refused c =
 
 pub returns-in-Accepted : goal.returns-in-Accepted
 unfolding plan_call
-returns-in-Accepted c = let a = c.args in
+returns-in-Accepted c =
+    let a = c.args in
+    let part = c.keep-tested in
+    let zeros = lent c.min-n.result a.slots.now c.min-n.ensures in
+    let accepted = ap verdict_of (sym c.in-Accepted.is) ∙ part.ensures.0 in
+    let each = zeros ∙ entry_for_each_lem _ _ _ _ accepted c.min-n.result c.min-n.ensures in
+    let same = take_at part.new.kept _ c.min-n.result (part.auto.kept ∙ zeros) in
     let lists = lists_of a.fates.now a.whens.now a.bys.now in
-    let n = c.min-n.result in
-    let less : n ≤ record_limits.packets = omega (arith, c.min-n.ensures) in
-    let keep = c.keep-tested in
-    let accepted = ap verdict_of (sym c.in-Accepted.is) ∙ keep.ensures.0 in
-    let zeros = length-take-le n _ less in
-    let long = keep.auto.kept ∙ zeros in
-    c.finish.ensures
-    ∙ ap (ran a.slots.now a.values.now)
-    (plan_course a.slots.now a.values.now a.room lists accepted _ keep.new.kept _
-    (zeros ∙ entry_for_each_lem a.slots.now a.values.now a.room lists accepted n c.min-n.ensures)
-    (take_at keep.new.kept _ n long) keep.ensures.1)
+    c.finish.ensures.ran (plan_runs a.slots.now a.values.now a.room lists accepted _ part.new.kept _ each same part.ensures.1).sized
+    ∙ ap (ran a.slots.now a.values.now) (plan_course a.slots.now a.values.now a.room lists accepted _ part.new.kept _ each same part.ensures.1)
     ∙ not_refused _ _ _ accepted

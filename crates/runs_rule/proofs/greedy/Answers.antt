@@ -3,20 +3,17 @@ use mathlib.Core.Path.{sym, ap, ◌∙◌}
 use Rattle.model.specs.Calls.{greedy_call}
 use Rattle.trace.specs.Checked.{verdict_of}
 use Rattle.steps.proofs.Answering.{refused, not_refused}
+use Rattle.runs_loop.proofs.Lists.{into_any}
 use Rattle.runs_rule.proofs.Ready.{greedy_ready}
 use Rattle.runs_rule.proofs.greedy.Goals as goal
 
-pub invariant_of-finish : goal.invariant_of-finish
-invariant_of-finish c =
-    let a = c.args in
-    let accepted = ap verdict_of (sym c.in-Accepted.is) ∙ c.check_plain.ensures in
-    record { le_room = (greedy_ready a.slots.now a.values.now a.room _ accepted).1 }
+pub invariant_of-policy : goal.invariant_of-policy
+invariant_of-policy c = record { le_room = (greedy_ready _ _ _ _ c.in-Accepted.ensures).1 }
 
-pub finish-requires : goal.finish-requires
-finish-requires c =
-    let a = c.args in
-    let accepted = ap verdict_of (sym c.in-Accepted.is) ∙ c.check_plain.ensures in
-    (greedy_ready a.slots.now a.values.now a.room _ accepted).0
+pub invariant_of-accepted : goal.invariant_of-accepted
+invariant_of-accepted c =
+    let ready = (greedy_ready _ _ _ _ c.in-Accepted.ensures).0 in
+    record { runnable = ready.runnable; ready = ∣ into_any ready ∣₁ }
 
 pub returns-in-Refused : goal.returns-in-Refused
 unfolding greedy_call
@@ -26,6 +23,6 @@ returns-in-Refused c =
 pub returns-in-Accepted : goal.returns-in-Accepted
 unfolding greedy_call
 returns-in-Accepted c =
-    let accepted = ap verdict_of (sym c.in-Accepted.is) ∙ c.check_plain.ensures in
-    c.finish.ensures
+    let accepted = c.in-Accepted.ensures in
+    c.finish.ensures.ran (greedy_ready _ _ _ _ accepted).0.sized
     ∙ not_refused _ _ _ accepted

@@ -6,20 +6,17 @@ use Rattle.model.specs.declared.Rule.TheVariants.{PG}
 use Rattle.laws.proofs.PG.{rule_run}
 use Rattle.trace.specs.Checked.{verdict_of}
 use Rattle.steps.proofs.Answering.{refused, not_refused}
+use Rattle.runs_loop.proofs.Lists.{into_any}
 use Rattle.runs_rule.proofs.Ready.{pg_ready}
 use Rattle.runs_rule.proofs.pg.Goals as goal
 
-pub invariant_of-finish : goal.invariant_of-finish
-invariant_of-finish c =
-    let a = c.args in
-    let accepted = ap verdict_of (sym c.in-Accepted.is) ∙ c.check_pg.ensures in
-    record { le_room = (pg_ready a.slots.now a.values.now a.room _ a.beta accepted).1 }
+pub invariant_of-policy : goal.invariant_of-policy
+invariant_of-policy c = record { le_room = (pg_ready _ _ _ _ _ c.in-Accepted.ensures).1 }
 
-pub finish-requires : goal.finish-requires
-finish-requires c =
-    let a = c.args in
-    let accepted = ap verdict_of (sym c.in-Accepted.is) ∙ c.check_pg.ensures in
-    (pg_ready a.slots.now a.values.now a.room _ a.beta accepted).0
+pub invariant_of-accepted : goal.invariant_of-accepted
+invariant_of-accepted c =
+    let ready = (pg_ready _ _ _ _ _ c.in-Accepted.ensures).0 in
+    record { runnable = ready.runnable; ready = ∣ into_any ready ∣₁ }
 
 pub returns-in-Refused : goal.returns-in-Refused
 unfolding pg_call
@@ -30,7 +27,7 @@ pub returns-in-Accepted : goal.returns-in-Accepted
 unfolding pg_call
 returns-in-Accepted c =
     let a = c.args in
-    let accepted = ap verdict_of (sym c.in-Accepted.is) ∙ c.check_pg.ensures in
-    c.finish.ensures
+    let accepted = c.in-Accepted.ensures in
+    c.finish.ensures.ran (pg_ready _ _ _ _ _ accepted).0.sized
     ∙ ap (ran a.slots.now a.values.now) (sym (rule_run a.room (PG a.beta) (arrivals a.slots.now a.values.now)))
     ∙ not_refused _ _ _ accepted
