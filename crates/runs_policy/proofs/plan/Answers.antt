@@ -1,8 +1,7 @@
 -- A refusal of the test is the answer. Where it accepts, the list has an entry for each packet, so `keep` told in it which packets the plan keeps, and the run
 -- holds these.
-use Prim.Native.Nat.{ℕ, min}
+use Prim.Native.Nat.{ℕ, ◌≤◌}
 use mathlib.Core.Path.{◌≡◌, sym, ap, ◌∙◌}
-use mathlib.Core.List.{List}
 use native.Mathlib.Omega.{arith}
 use lib.ListN.{length, take, replicate}
 use lib.Seq.{length-take-le, take_at}
@@ -17,28 +16,28 @@ use Rattle.runs_policy.proofs.Ready.{entry_for_each_lem, plan_runs, plan_course}
 use Rattle.runs_policy.proofs.plan.Goals as goal
 
 -- the list that `keep` is lent, and what it is then, have an entry for each packet
-lent : (n : ℕ) (slots : List ℕ) → n ≡ min (length slots) record_limits.packets → length {A = ℕ} (take n (replicate record_limits.packets 0)) ≡ n
-lent n slots e = length-take-le n (replicate {A = ℕ} record_limits.packets 0) (omega arith)
+lent : (n : ℕ) → n ≤ record_limits.packets → length {A = ℕ} (take n (replicate record_limits.packets 0)) ≡ n
+lent n less = length-take-le n (replicate {A = ℕ} record_limits.packets 0) less
 
 pub slice_bounds-keep-end : goal.slice_bounds-keep-end
-slice_bounds-keep-end c = sym (lent c.min-n.result c.args.slots.now c.min-n.ensures)
+slice_bounds-keep-end c = sym (lent c.min-n.result (omega (arith, c.min-n.ensures)))
 
 pub slice_bounds-kept-end-in-Accepted : goal.slice_bounds-kept-end-in-Accepted
 slice_bounds-kept-end-in-Accepted c =
     let part = c.keep-tested in
-    part_fits c.min-n.result part.new.kept _ (part.auto.kept ∙ lent c.min-n.result c.args.slots.now c.min-n.ensures)
+    part_fits c.min-n.result part.new.kept _ (part.auto.kept ∙ lent c.min-n.result (omega (arith, c.min-n.ensures)))
 
 pub slice_bounds-policy-end : goal.slice_bounds-policy-end
 slice_bounds-policy-end c =
     let part = c.keep-tested in
-    let long = part.auto.kept ∙ lent c.min-n.result c.args.slots.now c.min-n.ensures in
+    let long = part.auto.kept ∙ lent c.min-n.result (omega (arith, c.min-n.ensures)) in
     sym (ap length (take_at part.new.kept _ c.min-n.result long) ∙ long)
 
 pub invariant_of-accepted : goal.invariant_of-accepted
 invariant_of-accepted c =
     let a = c.args in
     let part = c.keep-tested in
-    let zeros = lent c.min-n.result a.slots.now c.min-n.ensures in
+    let zeros = lent c.min-n.result (omega (arith, c.min-n.ensures)) in
     let accepted = ap verdict_of (sym c.in-Accepted.is) ∙ part.ensures.0 in
     let ready = plan_runs a.slots.now a.values.now a.room (lists_of a.fates.now a.whens.now a.bys.now) accepted _ part.new.kept _
     (zeros ∙ entry_for_each_lem _ _ _ _ accepted c.min-n.result c.min-n.ensures)
@@ -55,7 +54,7 @@ unfolding plan_call
 returns-in-Accepted c =
     let a = c.args in
     let part = c.keep-tested in
-    let zeros = lent c.min-n.result a.slots.now c.min-n.ensures in
+    let zeros = lent c.min-n.result (omega (arith, c.min-n.ensures)) in
     let accepted = ap verdict_of (sym c.in-Accepted.is) ∙ part.ensures.0 in
     let each = zeros ∙ entry_for_each_lem _ _ _ _ accepted c.min-n.result c.min-n.ensures in
     let same = take_at part.new.kept _ c.min-n.result (part.auto.kept ∙ zeros) in
