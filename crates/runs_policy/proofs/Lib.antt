@@ -1,4 +1,2 @@
-pub mod Lifted
-pub mod Turning
-pub mod Running
+pub mod Marked
 pub mod Ready

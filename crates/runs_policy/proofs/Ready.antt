@@ -1,4 +1,4 @@
--- A trace that the test of MF or of the plan accepts is one on which its policy can run, and the run's course is that of the call's definition.
+-- A trace that the test of MF or of the plan accepts is one on which its policy can run.
 use Prim.Native.Nat.{ℕ, min}
 use mathlib.Core.Path.{◌≡◌, sym, ap, subst, ◌∙◌}
 use mathlib.Core.List.{List, []}
@@ -9,7 +9,7 @@ use Rattle.model.specs.Limits.{record_limits}
 use Rattle.model.specs.Packets.{arrivals}
 use Rattle.model.specs.Record.{Lists}
 use Rattle.model.specs.Rules.{clear}
-use Rattle.model.specs.Course.{by_rule, run_by, first}
+use Rattle.model.specs.Course.{by_rule, run_by}
 use Rattle.model.specs.Policies.MF.{mf_policy, unmarked}
 use Rattle.model.specs.Policies.Plan.{plan_kept, kept_rule, plan_run}
 use Rattle.model.specs.Refusals.{value_ok, lo_or_hi, plain_refusal, mf_refusal, marking_refusal}
@@ -20,12 +20,8 @@ use Rattle.laws.proofs.LawfulMF.{lawful_mf}
 use Rattle.laws.proofs.Accepted.{clear_number, accepted, lo_or_hi_ok}
 use Rattle.steps.specs.Calls.{Ready}
 use Rattle.steps.proofs.Answering.{ready}
-use Rattle.mf_marks.specs.Mark.{beside}
 use Rattle.plan_kept.specs.Keep.{kept_after}
 use Rattle.plan_kept.proofs.Planned.{accepted_kept}
-use Rattle.runs_policy.specs.declared.policy.Policy.TheVariants.{Kept}
-use Rattle.runs_policy.specs.Policy.{lifted, course_by}
-use Rattle.runs_policy.proofs.Lifted.{lifted_course, lifted_ready}
 
 module _ (slots values : List ℕ) (room : ℕ) (lists : Lists) where
   pub mf_ready : (M : Marking) → clear ≡ mf_refusal M slots values room lists → Ready (mf_policy room M slots) (unmarked (length slots)) slots values lists
@@ -52,17 +48,13 @@ module _ (slots values : List ℕ) (room : ℕ) (lists : Lists) where
         (well_formed_plan slots values tested.lengths room) (lawful_plan slots values room lists (clear_number _ e))
 
     -- what `keep` made of a list as long as the trace, and is lent to the run
-    module _ (zeros part kept marks : List ℕ) (same : length zeros ≡ length slots) (lent : kept ≡ part)
+    module _ (zeros part kept : List ℕ) (same : length zeros ≡ length slots) (lent : kept ≡ part)
         (K : part ≡ kept_after (plain_refusal slots values room lists) slots values room zeros) where
       planned : kept ≡ plan_kept room (arrivals slots values)
       planned = lent ∙ K ∙ accepted_kept slots values room zeros _ e same
 
-      pub plan_runs : Ready (lifted (kept_rule kept)) (beside [] marks) slots values lists
-      plan_runs =
-          lifted_ready (kept_rule kept) marks slots values lists
-          (subst (λ (k : List ℕ). Ready (by_rule (kept_rule k)) [] slots values lists) (sym planned) plan_ready)
+      pub plan_runs : Ready (by_rule (kept_rule kept)) [] slots values lists
+      plan_runs = subst (λ (k : List ℕ). Ready (by_rule (kept_rule k)) [] slots values lists) (sym planned) plan_ready
 
-      pub plan_course : course_by Kept kept marks slots values ≡ plan_run room (arrivals slots values)
-      plan_course =
-          lifted_course (kept_rule kept) marks first [] (arrivals slots values)
-          ∙ ap (λ (k : List ℕ). run_by (kept_rule k) (arrivals slots values)) planned
+      pub plan_course : run_by (kept_rule kept) (arrivals slots values) ≡ plan_run room (arrivals slots values)
+      plan_course = ap (λ (k : List ℕ). run_by (kept_rule k) (arrivals slots values)) planned

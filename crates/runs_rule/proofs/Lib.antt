@@ -1,3 +1,2 @@
 pub mod Empty
-pub mod Running
 pub mod Ready

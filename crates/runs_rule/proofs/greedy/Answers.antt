@@ -1,27 +1,31 @@
 -- A refusal of the test is the answer; an accepted trace is one on which the policy can run.
 use mathlib.Core.Path.{sym, ap, ◌∙◌}
 use Rattle.model.specs.Calls.{greedy_call}
-use Rattle.trace.specs.Checked.{verdict_of}
+use Rattle.std.proofs.Common.{rules}
+use Rattle.std.specs.Prelude.{Err, ◌≡◌}
 use Rattle.steps.proofs.Answering.{refused, not_refused}
+use Rattle.runs_loop.proofs.Lists.{into_any}
 use Rattle.runs_rule.proofs.Ready.{greedy_ready}
 use Rattle.runs_rule.proofs.greedy.Goals as goal
 
-pub finish-requires : goal.finish-requires
-finish-requires c = let start = c in
-    let a = start.args in
-    let accepted = ap verdict_of (sym c.in-Ok.is) ∙ c.check_plain.ensures in
-    let ready = greedy_ready a.slots.now a.values.now a.room _ accepted in
-    record { ready = ready.0; le_room = ready.1 }
+pub invariant_of-policy : goal.invariant_of-policy
+invariant_of-policy c = record { le_room = (greedy_ready _ _ _ _ c.in_ok-check_plain.ensures).1 }
 
-pub returns-in-Err : goal.returns-in-Err
-unfolding greedy_call
-returns-in-Err c =
-    refused _ _ _ c.in-Err.refusal (ap verdict_of (sym c.in-Err.is) ∙ c.check_plain.ensures)
+pub invariant_of-accepted : goal.invariant_of-accepted
+invariant_of-accepted c =
+    let ready = (greedy_ready _ _ _ _ c.in_ok-check_plain.ensures).0 in
+    record { runnable = ready.runnable; ready = ∣ into_any ready ∣₁ }
 
-pub returns-in-Ok : goal.returns-in-Ok
+pub returns-in_err-check_plain : goal.returns-in_err-check_plain
 unfolding greedy_call
-returns-in-Ok c = let start = c in
-    let a = start.args in
-    let accepted = ap verdict_of (sym c.in-Ok.is) ∙ c.check_plain.ensures in
-    c.finish.ensures
+returns-in_err-check_plain c =
+    let refusal = c.in_err-check_plain.field-0.0 in
+    let is : c.from_residual.result ≡ Err refusal = search rules in
+    rw is (refused _ _ _ refusal (c.in_err-check_plain.ensures))
+
+pub returns : goal.returns
+unfolding greedy_call
+returns c =
+    let accepted = c.in_ok-check_plain.ensures in
+    c.finish.ensures.ran (greedy_ready _ _ _ _ accepted).0.sized
     ∙ not_refused _ _ _ accepted

@@ -1,0 +1,3 @@
+pub mod Going
+pub mod Lists
+pub mod Queueing
