@@ -1,7 +1,7 @@
 // What a policy decides of one arrival, from the values of the held packets, oldest first. No copy of the held list is made.
 #![tactic(auto)]
 
-ghost use Rattle.std.specs.Prelude.{◌≡◌, position};
+ghost use Rattle.std.specs.Prelude.{◌≡◌, Some, position};
 ghost use Rattle.queue.specs.Choose.{lowest_of, newest_of, preempts, overflow_choice, greedy_choice, choose, of_choice};
 ghost use Rattle.queue.specs.Slide.{slid};
 
@@ -38,11 +38,10 @@ fn preempts(beta: Beta, arrival: u32, value: u32) -> bool
 }
 
 // The place of the first packet that an arrival preempts, if there is one. Where even the lowest value is not preempted none is.
-fn preempted(values: &[u32], low: Option<u32>, beta: Beta, arrival: u32) -> Option<usize>
-    requires { low ≡ lowest_of values.now }
+fn preempted(values: &[u32], low: u32, beta: Beta, arrival: u32) -> Option<usize>
+    requires { lowest_of values.now ≡ Some low }
     ensures { result ≡ position (preempts beta arrival) values.now }
 {
-    let low = low?;
     let goes = preempts(beta, arrival, low);
     if !goes {
         return None;
@@ -53,13 +52,10 @@ fn preempted(values: &[u32], low: Option<u32>, beta: Beta, arrival: u32) -> Opti
 }
 
 // There is no room: the loser of the held packets and the arrival goes, the lowest value, among equals the newest.
-fn overflow(values: &[u32], low: Option<u32>, arrival: u32) -> Choice
-    requires { low ≡ lowest_of values.now }
+fn overflow(values: &[u32], low: u32, arrival: u32) -> Choice
+    requires { lowest_of values.now ≡ Some low }
     ensures { result ≡ overflow_choice values.now arrival }
 {
-    let Some(low) = low else {
-        return Choice::Reject;
-    };
     if arrival <= low {
         return Choice::Reject;
     }
@@ -72,7 +68,10 @@ fn decide_greedy(values: &[u32], room: usize, arrival: u32) -> Choice
     ensures { result ≡ greedy_choice room values.now arrival }
 {
     if room <= values.len() {
-        overflow(values, lowest(values), arrival)
+        match lowest(values) {
+            None => Choice::Reject,
+            Some(low) => overflow(values, low, arrival),
+        }
     } else {
         Choice::Hold
     }
@@ -82,7 +81,9 @@ fn decide_greedy(values: &[u32], room: usize, arrival: u32) -> Choice
 fn decide_pg(values: &[u32], room: usize, beta: Beta, arrival: u32) -> Choice
     ensures { result ≡ choose room (Rule.PG beta) values.now arrival }
 {
-    let low = lowest(values);
+    let Some(low) = lowest(values) else {
+        return decide_greedy(values, room, arrival);
+    };
     if let Some(place) = preempted(values, low, beta, arrival) {
         return Choice::Lose(place, LossKind::Preempted);
     }
