@@ -41,23 +41,18 @@ pub fn feed(port: Port, events: &[u32]) -> u64
     ensures { result ≡ heard (state_of port) 0 events.now }
 {
     let mut left = port;
-    let mut sum: u64 = 0;
-    let mut i = 0;
-    while i < events.len() {
-        let event = events[i];
-        let ends = event == 0;
+    let mut sum = 0;
+    for event in events {
+        let ends = *event == 0;
         if ends {
             let end = left.end_of_slot();
             left = end.port;
-            let answer = end.answer;
-            sum = mix_slot(sum, answer);
+            sum = mix_slot(sum, end.answer);
         } else {
-            let arrival = left.arrive(event);
+            let arrival = left.arrive(*event);
             left = arrival.port;
-            let answer = arrival.answer;
-            sum = mix_arrival(sum, answer);
+            sum = mix_arrival(sum, arrival.answer);
         }
-        i += 1;
     }
     sum
 }

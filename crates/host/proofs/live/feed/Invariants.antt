@@ -7,8 +7,5 @@ use Rattle.port.specs.State.{state_of}
 use Rattle.host.specs.Live.{heard}
 use Rattle.host.proofs.live.feed.Given as goal
 
-abbrev pub invariant-loop-i : goal.invariant-loop-i
-invariant-loop-i l = (l.i ≤ length l.events) × (l.sum < 2 ^ 32) × (heard (state_of l.left) l.sum (drop l.i l.events) ≡ heard (state_of l.initial.left) 0 l.events)
-
-abbrev pub decreases-loop-i : goal.decreases-loop-i
-decreases-loop-i l = length l.events - l.i
+abbrev pub invariant-loop-event : goal.invariant-loop-event
+invariant-loop-event l = (l.sum < 2 ^ 32) × (heard (state_of l.left) l.sum (drop l.event-index l.events) ≡ heard (state_of l.initial.left) 0 l.events)
