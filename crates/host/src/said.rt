@@ -28,7 +28,7 @@ fn tell(list: &mut [u32], totals: Totals)
     put(list, 12, totals.most_held);
 }
 
-// A refusal or a fault in one number.
+// A refusal or a fault in one number: C has no Result.
 pub fn code(number: u32, place: u32) -> u64
     ensures { result ≡ code_of number place }
 {

@@ -18,9 +18,6 @@ use Rattle.lab_jobs.specs.Jobs.{all_betas}
 use Rattle.lab_jobs.proofs.Wording.{behind_is}
 use Rattle.lab.specs.Heard.{betas_in, Heard}
 
-pub heard_none : (words : List Word) → Heard 0 words
-heard_none words = record { arguments = []; are = refl }
-
 pub heard_more : (i : ℕ) (words : List Word) (bytes : List ℕ) (w : Word) → i < length words → w ≡ word_of bytes → Heard i words
     → Heard (i + 1) (set words i w)
 heard_more i words bytes w inside is before =
@@ -39,9 +36,6 @@ heard_at i count words e before = rw e at before
 pub record Copied (behind : List Word) (i : ℕ) (betas : List Beta) (count : ℕ) : Type 0 where
   pub few : count ≤ i
   pub are : take count betas ≡ filter_map beta_of (take i behind)
-
-pub copied_none : (behind : List Word) (betas : List Beta) → Copied behind 0 betas 0
-copied_none behind betas = record { few = omega arith; are = refl }
 
 module _ (behind : List Word) (i : ℕ) (more : i < length behind) where
   copied_step : (found : Option Beta) → found ≡ beta_of (get_or behind i word.Other)

@@ -9,7 +9,7 @@ ghost use Rattle.model.specs.declared.AuditError.TheVariants.{Faulty, Refused};
 ghost use Rattle.model.specs.Totals.{no_totals};
 ghost use Rattle.model.specs.Packets.{nobody as no_packet};
 
-// The number of a packet, from 1; 0 where there is none. The index of document 000.
+// The number of a packet, from 1; 0 where there is none, and no Option, since it stands so in 01's lists. The index of document 000.
 #[derive(Clone, Copy)]
 pub struct PacketNumber(pub u32);
 
@@ -207,7 +207,7 @@ impl From<Cause> for u32 {
     }
 }
 
-// A refusal: its cause, and its place (a packet's number or a line's), 0 where none is named.
+// A refusal: its cause, and its place (a packet's number or a line's), 0 where none is named, which is 01's own number for it and so no Option.
 #[derive(Clone, Copy)]
 pub struct Refusal {
     pub cause: Cause,
@@ -272,7 +272,7 @@ pub struct Loss {
     pub kind: LossKind,
 }
 
-// What a call on a trace says: 0, or a refusal's or a fault's number with its place; and the totals, zero throughout where there are none.
+// What a call on a trace says, in the numbers that 01 and the C interface have in place of a Result: 0, or a refusal's or a fault's number with its place; and the totals, zero throughout where there are none.
 #[derive(Clone, Copy)]
 pub struct Reply {
     pub number: u32,

@@ -101,13 +101,6 @@ module _ (room : ℕ) (slots values : List ℕ) (lists : Lists) where
       let A = accepted own ok slots values room lists (unless_zero (trace_refusal own ok slots values room lists) lists o zero) in
       (A.lengths, A.sized))
 
--- more packets than a record has places
-pub lengths_differ : {packets values : ℕ} → (values ≡ packets → ⊥) → refused_with Lengths ≡ too_many packets values
-lengths_differ {packets} {values} h = rw (ne_eqb values packets h) refl
-
-pub lengths_same : {packets values : ℕ} → values ≡ packets → refused_with Packets ≡ too_many packets values
-lengths_same {packets} {values} h = rw (eq-eqb values packets h) refl
-
 module _ (policy : Policy) (room : ℕ) (slots values : List ℕ) (many : record_limits.packets < length slots) where
   pub over : reply_of policy room slots values ≡ too_many (length slots) (length values)
   over = go (eqb (length values) (length slots)) refl

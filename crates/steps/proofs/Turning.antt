@@ -25,15 +25,6 @@ pub sending_shorter : (now until : Slot) (queue : List Packet) → length (sendi
 unfolding sending
 sending_shorter now until queue = ends_short any_rule (slots_until now until) now queue
 
-pub sent_free : (now until : Slot) (w : Window) (numbers values : List ℕ) (before after : Lists) (r : Window) → Within w numbers values → w.tail - w.head < length values
-    → Stepped (sending now until (window_of w numbers values)) before r numbers values after → r.tail - r.head < length values
-unfolding sending
-sent_free now until w numbers values before after r W short S =
-    let was = window_length w numbers values W in
-    let is = window_length r numbers values S.within in
-    let less = ends_short any_rule (slots_until now until) now (window_of w numbers values) in
-    omega (arith, ap length S.queue)
-
 pub turned : (rule : List Packet → Packet → Decided) (now : Slot) (a : Arrival) (queue : List Packet) (before between after : Lists)
     (w r : Window) (numbers values numbers' values' : List ℕ)
     → Stepped (sending now a.slot queue) before w numbers values between
@@ -63,7 +54,3 @@ pub sending_is : (rule : List Packet → Packet → Decided) (now until : Slot) 
     → sending now until queue ≡ slot_ends (by_rule rule) (slots_until now until) now queue
 unfolding sending
 sending_is rule now until queue = ends_any rule (slots_until now until) now queue
-
-pub turning_is : (rule : List Packet → Packet → Decided) (now : Slot) (a : Arrival) (queue : List Packet) → turning rule now a queue ≡ turn (by_rule rule) now queue a
-turning_is rule now a queue =
-    ap (λ (s : Step (List Packet)). and_then s.entries (arriving rule a s.next)) (sending_is rule now a.slot queue)
