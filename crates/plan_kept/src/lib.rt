@@ -64,7 +64,9 @@ fn keep_if_fits(slots: &[u32], room: usize, held: &mut [u16], kept: &mut [u8], p
     }
 }
 
-// Takes the packets at the places of `order` in turn, and keeps each that fits with those kept already.
+// Takes the packets at the places of `order` in turn, and keeps each that fits with those kept already. Not put in line with the run: among all that a run
+// holds, `reach` has too few registers, and a plan took up to twice as long.
+#[inline(never)]
 fn keep_in_turn(slots: &[u32], room: usize, order: &[u16], held: &mut [u16], kept: &mut [u8])
     requires keepable { Keepable slots.now room kept.old }
     requires held_as { HeldAs slots.now room kept.old held.old }
