@@ -13,7 +13,7 @@ use borrow.Author.Tests.{le-leb, lt-leb, eqb-true, eqb-false}
 use Rattle.std.proofs.Common.{Some, None}
 use Rattle.model.specs.Limits.{within}
 use Rattle.field.specs.Fields.{all_digits, value_from, is_number}
-use Rattle.lab_jobs.specs.Words.{number_in}
+use Rattle.lab_jobs.specs.Words.{number_in, slash_at, beta_in}
 
 module _ (bytes : List ℕ) where
   number_none : length bytes ≡ 0 → None ≡ number_in bytes
@@ -89,3 +89,9 @@ counted_turn bytes i n more before low high =
 -- what stands behind some of a list, as the code lends it
 pub behind_is : {A : Type 0} (n : ℕ) (l : List A) → take (length l - n) (drop n l) ≡ drop n l
 behind_is n l = take_all (length l - n) (drop n l) (rw (length-drop n l) (omega arith))
+
+-- a beta: the numbers before and behind the slash
+pub beta_both : (bytes : List ℕ) (at num den : ℕ) → slash_at bytes ≡ Some at → number_in (take at bytes) ≡ Some num → number_in (drop (at + 1) bytes) ≡ Some den
+    → Some (record { num = num; den = den }) ≡ beta_in bytes
+unfolding beta_in
+beta_both bytes at num den is one two = rw (is, one, two) refl

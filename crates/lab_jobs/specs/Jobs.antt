@@ -1,7 +1,8 @@
 -- What the arguments ask for.
-use Rattle.std.specs.Prelude.{ℕ, Bool, cond, List, [], ◌∷◌, map, Option, Some, None, is_some}
+use Rattle.std.specs.Prelude.{ℕ, Bool, cond, ◌&&◌, List, [], ◌∷◌, map, length, get_or, take, drop, ◌==◌, eqb, Option, Some, None, is_some}
 use Rattle.std.specs.Option.{option_map}
 use Rattle.std.specs.List.{list_all}
+use Rattle.field.specs.Fields.{same}
 use Rattle.runs.specs.declared.Policy.{Policy}
 use Rattle.runs.specs.declared.Policy.TheVariants.{Greedy, PG, MF, Plan}
 use Rattle.lab_jobs.specs.declared.jobs.Job.{Job}
@@ -44,3 +45,24 @@ job_from (name ∷ parameters) = command_from name parameters
 -- the job of some arguments
 abbrev pub job_of : List (List ℕ) → Option Job
 job_of arguments = job_from (map word_of arguments)
+
+-- kinds of words that are betas
+abbrev pub only_betas : List ℕ → Bool
+only_betas kinds = list_all (λ (kind : ℕ). kind == 9) kinds
+
+-- the kinds of words that may stand behind six: betas behind a table's, none behind another job's
+abbrev pub may_follow : Job → List ℕ → Bool
+may_follow (Table room) kinds = only_betas kinds
+may_follow _ kinds = eqb (length kinds) 0
+
+-- the job of some kinds of words, with their numbers in parallel lists, by place: `run greedy ROOM`, `run pg ROOM BETA`, `run mf ROOM LO HI R`,
+-- `run plan ROOM`, `table ROOM BETA..`, `audit ROOM`, or nothing. A number that is not there is 0
+unfoldable pub job_by_kinds : List ℕ → List ℕ → List ℕ → Option Job
+job_by_kinds kinds firsts seconds =
+    let at : ℕ → ℕ = λ place. get_or firsts place 0 in
+    cond (same kinds (1 ∷ 4 ∷ 8 ∷ [])) (Some (Run Greedy (at 2)))
+    (cond (same kinds (1 ∷ 5 ∷ 8 ∷ 9 ∷ [])) (Some (Run (PG (record { num = at 3; den = get_or seconds 3 0 })) (at 2)))
+    (cond (same kinds (1 ∷ 6 ∷ 8 ∷ 8 ∷ 8 ∷ 8 ∷ [])) (Some (Run (MF (record { lo = at 3; hi = at 4; r = at 5 })) (at 2)))
+    (cond (same kinds (1 ∷ 7 ∷ 8 ∷ [])) (Some (Run Plan (at 2)))
+    (cond (same (take 2 kinds) (2 ∷ 8 ∷ []) && only_betas (drop 2 kinds)) (Some (Table (at 1)))
+    (cond (same kinds (3 ∷ 8 ∷ [])) (Some (Audit (at 1))) None)))))

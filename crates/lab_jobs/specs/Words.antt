@@ -1,5 +1,5 @@
 -- An argument as a word: a command, a policy, a number of 1 to 7 digits, or a beta, NUMBER/NUMBER.
-use Rattle.std.specs.Prelude.{ℕ, ◌+◌, cond, List, take, drop, ◌==◌, codes, position, Option, Some, None}
+use Rattle.std.specs.Prelude.{ℕ, ◌+◌, cond, List, [], ◌∷◌, get_or, take, drop, ◌==◌, codes, position, Option, Some, None}
 use Rattle.std.specs.Str.{bytes_eq}
 use Rattle.model.specs.declared.Beta.{Beta}
 use Rattle.field.specs.Fields.{is_number, value_from}
@@ -62,3 +62,22 @@ name_or None w = w
 
 unfoldable pub word_of : List ℕ → Word
 word_of bytes = name_or (name_in bytes) (number_or (number_in bytes) (beta_in bytes))
+
+-- the kinds of words by number: `run` 1, `table` 2, `audit` 3, `greedy` 4, `pg` 5, `mf` 6, `plan` 7, a number 8, a beta 9. No other is a word of a command
+unfoldable pub word_of_kind : ℕ → ℕ → ℕ → Word
+word_of_kind kind first second =
+    cond (kind == 1) word.Run
+    (cond (kind == 2) word.Table
+    (cond (kind == 3) word.Audit
+    (cond (kind == 4) word.Greedy
+    (cond (kind == 5) word.Pg
+    (cond (kind == 6) word.Mf
+    (cond (kind == 7) word.Plan
+    (cond (kind == 8) (word.Number first)
+    (cond (kind == 9) (word.Beta (record { num = first; den = second })) word.Other))))))))
+
+-- the words of some kinds, with their numbers in parallel lists; a number that is not there is 0
+unfoldable pub words_of : List ℕ → List ℕ → List ℕ → List Word
+words_of [] firsts seconds = []
+words_of (kind ∷ kinds) firsts seconds =
+    word_of_kind kind (get_or firsts 0 0) (get_or seconds 0 0) ∷ words_of kinds (drop 1 firsts) (drop 1 seconds)

@@ -1,9 +1,30 @@
 // An argument as a word: a command, a policy, a number or a beta.
 ghost use Rattle.std.specs.Prelude.{◌≡◌};
-ghost use Rattle.lab_jobs.specs.Words.{number_of, beta_of, name_in, number_in, slash_at, beta_in, word_of};
+ghost use Rattle.lab_jobs.specs.Words.{number_of, beta_of, name_in, number_in, slash_at, beta_in, word_of, word_of_kind};
 
 use model::Beta;
 use signs::{NINE, ZERO};
+
+// The kinds of words by number, for a caller that holds them so. What is none of a command is OTHER, or any number above BETA.
+pub const OTHER: u8 = 0;
+
+pub const RUN: u8 = 1;
+
+pub const TABLE: u8 = 2;
+
+pub const AUDIT: u8 = 3;
+
+pub const GREEDY: u8 = 4;
+
+pub const PG: u8 = 5;
+
+pub const MF: u8 = 6;
+
+pub const PLAN: u8 = 7;
+
+pub const NUMBER: u8 = 8;
+
+pub const BETA: u8 = 9;
 
 // The most digits of a number.
 const DIGITS: usize = 7;
@@ -23,6 +44,28 @@ pub enum Word {
 }
 
 impl Word {
+    // The word of a kind, with its numbers: one of a number, two of a beta.
+    #[tactic(auto, unfolding(crate::specs::Words::word_of_kind))]
+    pub fn of_kind(kind: u8, first: u32, second: u32) -> Word
+        ensures { result ≡ word_of_kind kind first second }
+    {
+        match kind {
+            RUN => Word::Run,
+            TABLE => Word::Table,
+            AUDIT => Word::Audit,
+            GREEDY => Word::Greedy,
+            PG => Word::Pg,
+            MF => Word::Mf,
+            PLAN => Word::Plan,
+            NUMBER => Word::Number(first),
+            BETA => Word::Beta(Beta {
+                num: first,
+                den: second,
+            }),
+            _ => Word::Other,
+        }
+    }
+
     // The number that a word is.
     pub(crate) fn number(self) -> Option<u32>
         ensures { result ≡ number_of self }

@@ -2,3 +2,4 @@
 pub mod Chain
 pub mod Tables
 pub mod Spoken
+pub mod Pairs

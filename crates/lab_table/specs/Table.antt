@@ -91,3 +91,13 @@ table_text room betas slots values =
 unfoldable pub table_spoken : ℕ → List Beta → List ℕ → List ℕ → List ℕ → List ℕ
 table_spoken room betas slots values out =
     cond (ltb (length out) table_limit) [] (cond (ltb most_betas (length betas)) [] (table_text room betas slots values))
+
+-- the betas of numerators and denominators, in pairs
+unfoldable pub betas_from : List ℕ → List ℕ → List Beta
+betas_from (num ∷ nums) (den ∷ dens) = record { num = num; den = den } ∷ betas_from nums dens
+betas_from _ _ = []
+
+-- the same for betas in parallel lists: nothing is said of numerators that are not as many as the denominators
+unfoldable pub table_of_lists_spoken : ℕ → List ℕ → List ℕ → List ℕ → List ℕ → List ℕ → List ℕ
+table_of_lists_spoken room nums dens slots values out =
+    cond (eqb (length dens) (length nums)) (table_spoken room (betas_from nums dens) slots values out) []
