@@ -1,19 +1,30 @@
--- What the audit says of the numbers of the rows: those that are left tell what all do.
+-- What the audit says, by its number; and the numbers of the rows: those that are left tell what all do.
 use Prim.Native.Nat.{ℕ, suc, ◌+◌, ◌≤◌, ◌<◌}
 use mathlib.Core.Path.{◌≡◌, refl, sym, ap, ◌∙◌}
-use mathlib.Core.List.{List}
+use mathlib.Core.List.{List, ◌++◌}
 use native.Mathlib.Numerals.{add-one}
 use native.Mathlib.Omega.{arith}
 use lib.ListN.{length, get_or, drop, drop_of_length-le}
 use lib.Seq.{drop-cons}
 use borrow.Author.Tests.{eq-eqb, ne_eqb}
-use Rattle.std.proofs.Common.{Some, None}
+use Rattle.std.proofs.Common.{Some, None, Result}
 use Rattle.model.specs.declared.Cause.TheVariants.{Text}
+use Rattle.model.specs.declared.Totals.{Totals}
+use Rattle.model.specs.declared.AuditError.{AuditError}
 use Rattle.model.specs.Record.{Lists}
 use Rattle.model.specs.Numbers.{cause_number}
+use Rattle.model.specs.Answers.{Reply, of_audit}
 use Rattle.model.specs.Calls.{audit_call}
-use Rattle.output.specs.Output.{refusal_text}
-use Rattle.lab.specs.Audit.{misnumbered_from, verdict_text, audit_text}
+use Rattle.output.specs.Output.{line_with, refusal_text}
+use Rattle.lab_table.specs.Line.{counts_of}
+use Rattle.lab.specs.Audit.{misnumbered_from, audit_header, verdict_text, audit_text}
+
+module _ (answer : Result Totals AuditError) {verdict reply : Reply} (is : of_audit answer ≡ verdict) (replies : reply ≡ of_audit answer) where
+  pub verdict_some : (reply.number ≡ 0 → ⊥) → refusal_text reply.number reply.place ≡ verdict_text verdict
+  verdict_some some = rw (← is, ← replies, ne_eqb reply.number 0 some) refl
+
+  pub verdict_passed : reply.number ≡ 0 → audit_header ++ line_with (counts_of reply.totals) ≡ verdict_text verdict
+  verdict_passed none = rw (← is, ← replies, none) refl
 
 module _ (numbers : List ℕ) (i : ℕ) where
   abbrev pub Numbered : Type 0

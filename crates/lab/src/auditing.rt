@@ -7,8 +7,9 @@ ghost use Rattle.output.specs.Writing.{WroteIn};
 ghost use Rattle.lab.specs.Audit.{misnumbered_from, verdict_text, audit_text};
 
 use lab_table::counts_of;
-use model::{AuditError, Cause};
-use output::{put, put_line, put_refusal, refuse};
+use model::Cause;
+use output::{put, put_line, put_refusal};
+use replies::of_audit;
 
 const HEADER: [u8; 60] = *b"sent,value,rejected,pushed out,preempted,flushed,most held\r\n";
 
@@ -39,18 +40,13 @@ fn say(
     requires { 209 ≤ length out.old }
     ensures { WroteIn out result 0 (verdict_text (audit_call slots.now values.now room (lists_of fates.now whens.now bys.now))) }
 {
-    match audit::audit(slots, values, room, fates, whens, bys) {
-        Ok(totals) => {
-            let at = put(out, 0, &HEADER);
-            put_line(out, at, &counts_of(totals))
-        }
-        Err(AuditError::Faulty(first)) => put_refusal(
-            out,
-            u32::from(first.fault) as u64,
-            first.packet.0 as u64,
-        ),
-        Err(AuditError::Refused(refusal)) => refuse(out, refusal),
+    let reply = of_audit(audit::audit(slots, values, room, fates, whens, bys));
+    let refused = reply.number != 0;
+    if refused {
+        return put_refusal(out, reply.number as u64, reply.place as u64);
     }
+    let at = put(out, 0, &HEADER);
+    put_line(out, at, &counts_of(reply.totals))
 }
 
 // What the audit makes of a record, with its rows' numbers.

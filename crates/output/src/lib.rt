@@ -10,6 +10,7 @@ ghost use Rattle.output.specs.Writing.{PutIn, lists_in, rows_text};
 mod write;
 
 use model::{Record, Refusal};
+use replies::of_run;
 pub use write::RecordRows;
 use write::{write_bytes, write_line, write_number, write_rows};
 
@@ -83,8 +84,8 @@ pub fn put_refusal(out: &mut [u8], number: u64, place: u64) -> usize
 pub fn refuse(out: &mut [u8], refusal: Refusal) -> usize
     ensures { PutIn out result 59 0 (refusal_text (cause_number refusal.cause) refusal.place) }
 {
-    let cause = u32::from(refusal.cause);
-    put_refusal(out, cause as u64, refusal.place as u64)
+    let reply = of_run(Err(refusal));
+    put_refusal(out, reply.number as u64, reply.place as u64)
 }
 
 // Writes a record's rows. Lists that differ in length are no record: then it writes nothing.

@@ -1,0 +1,2 @@
+-- Laws on plain values of what an answer says.
+pub mod Replies
