@@ -319,3 +319,15 @@ bad_from name rest = from_by name bad_field Bad refl rest
 
 pub fresh_from : (name rest : List ℕ) → field_from name fresh_field rest ≡ kind_after name 0 0 0 (held_in rest)
 fresh_from name rest = from_by name fresh_field Fresh refl rest
+
+-- lists that differ in length are not the same
+pub same_lengths : (a b : List ℕ) → (length a ≡ length b → ⊥) → false ≡ same a b
+unfolding same
+same_lengths [] [] h = absurd (h refl)
+same_lengths [] (c ∷ cs) h = refl
+same_lengths (b ∷ bs) [] h = refl
+same_lengths (b ∷ bs) (c ∷ cs) h = go (eqb b c) (same_lengths bs cs (λ e. h (ap suc e)))
+  where
+    go : (t : Bool) → false ≡ same bs cs → false ≡ t && same bs cs
+    go true rest = rest
+    go false rest = refl

@@ -1,13 +1,13 @@
 -- The code's tests lead to the choice that the definitions make; and the choice, applied to the queue, is the rule's decision.
-use Prim.Native.Nat.{ℕ, suc, ◌+◌, ◌*◌, ◌≤◌, ◌<◌}
+use Prim.Native.Nat.{ℕ, suc, min, ◌+◌, ◌*◌, ◌≤◌, ◌<◌}
 use mathlib.Core.Path.{◌≡◌, refl, sym, ap, ◌∙◌}
 use mathlib.Core.Bool.{Bool, true, false, cond}
 use mathlib.Core.List.{List, [], ◌∷◌, ◌++◌}
 use native.Mathlib.Omega.{arith}
 use native.Mathlib.Nat.{mul-le-mul_right, min-le_left, min-le_right}
 use lib.ListN.{length, length-map}
-use lib.Dec.{ltb}
-use borrow.Author.Tests.{lt-ltb, le-ltb, lt-leb, leb-false}
+use lib.Dec.{leb, ltb}
+use borrow.Author.Tests.{lt-ltb, le-ltb, lt-leb, leb-true, leb-false}
 use Rattle.std.proofs.Common.{None, Some}
 use Rattle.std.specs.List.{position, position_or_len}
 use Rattle.std.proofs.lemmas.List.Recursion.{is_position_or_len}
@@ -26,7 +26,7 @@ use Rattle.queue.specs.declared.Choice.{Choice}
 use Rattle.queue.specs.declared.Choice.TheVariants.{Hold, Reject, Lose}
 use Rattle.queue.specs.Choose.{lowest_with, lowest_of, newest_of, preempts, overflow_choice, greedy_choice, choose, applied}
 use Rattle.laws.specs.AtOnce.{at_once}
-use Rattle.queue.proofs.Loser.{arrival_loses, held_lower, held_loses, newest_inside, lowest_at_most}
+use Rattle.queue.proofs.Loser.{arrival_loses, held_lower, held_loses, lowest_at_most}
 
 module _ (values : List ℕ) (arrival : ℕ) where
   pub overflow_empty : lowest_of values ≡ None → Reject ≡ overflow_choice values arrival
@@ -46,7 +46,8 @@ module _ (values : List ℕ) (arrival : ℕ) where
     pub overflow_pushes : (place : ℕ) → low < arrival → newest_of low values ≡ Some place → Lose place PushedOut ≡ overflow_choice values arrival
     unfolding overflow_choice
     overflow_pushes place h found =
-        rw (held_loses values low is arrival place h found, lt-ltb _ _ (newest_inside low values place found)) refl
+        let lost = (held_loses values low is arrival h).1 place found in
+        rw (lost.1, lt-ltb _ _ lost.0) refl
 
   module _ (room : ℕ) where
     pub greedy_holds : length values < room → Hold ≡ greedy_choice room values arrival
@@ -76,6 +77,14 @@ no_place n most none e = go (ltb n most) e
     go : (t : Bool) → cond t (Some n) None ≡ None → none ≡ cond t (Lose n Preempted) none
     go true e = absurd (cc)
     go false e = refl
+
+-- the least of two, times a number: it is one of the two products
+min_cases : (G : Type 0) (a b n : ℕ) → (min a b * n ≡ a * n → G) → (min a b * n ≡ b * n → G) → G
+min_cases G a b n left right = go (leb a b) refl
+  where
+    go : (t : Bool) → leb a b ≡ t → G
+    go true e = let h : a ≤ b = leb-true _ _ e in left (ap (λ (m : ℕ). m * n) (omega arith))
+    go false e = let h : b < a = leb-false _ _ e in right (ap (λ (m : ℕ). m * n) (omega arith))
 
 module _ (beta : Beta) (arrival : ℕ) where
   -- the beta step finds the first value that an arrival preempts
@@ -109,15 +118,50 @@ module _ (beta : Beta) (arrival : ℕ) where
       let rest = stays_with low values (omega (arith, mul-le-mul_right beta.num (min-le_right v (lowest_with low values)))) in
       rw (lt-leb _ _ here) (omega arith)
 
-  pub lowest_stays : (values : List ℕ) (low : ℕ) → lowest_of values ≡ Some low → preempts beta arrival low ≡ false → None ≡ position (preempts beta arrival) values
+  pub lowest_stays_at : (values : List ℕ) (low : ℕ) → lowest_of values ≡ Some low → arrival * beta.den < low * beta.num
+      → length values ≤ preempted_at beta arrival values
   unfolding lowest_of preempted_at
-  lowest_stays [] low is h = refl
-  lowest_stays (v ∷ values) low is h =
+  lowest_stays_at [] low is h = omega arith
+  lowest_stays_at (v ∷ values) low is h =
       let same : lowest_with v values ≡ low = cc in
-      let stays : arrival * beta.den < lowest_with v values * beta.num = rw same (leb-false _ _ h) in
+      let stays : arrival * beta.den < lowest_with v values * beta.num = rw same h in
       let here : arrival * beta.den < v * beta.num = omega (arith, mul-le-mul_right beta.num (lowest_at_most v values)) in
       let rest = stays_with v values stays in
-      none_first (v ∷ values) (rw (lt-leb _ _ here) (omega arith))
+      rw (lt-leb _ _ here) (omega arith)
+
+  pub lowest_stays : (values : List ℕ) (low : ℕ) → lowest_of values ≡ Some low → preempts beta arrival low ≡ false → None ≡ position (preempts beta arrival) values
+  lowest_stays values low is h = none_first values (lowest_stays_at values low is (leb-false _ _ h))
+
+  -- the lowest value is preempted: some value is
+  goes_with : (low : ℕ) (values : List ℕ) → arrival * beta.den < low * beta.num → lowest_with low values * beta.num ≤ arrival * beta.den
+      → preempted_at beta arrival values < length values
+  unfolding lowest_with preempted_at
+  goes_with low [] above h = absurd (omega arith)
+  goes_with low (v ∷ values) above h = go (goes_with low values above) (leb (v * beta.num) (arrival * beta.den)) refl
+    where
+      go : (lowest_with low values * beta.num ≤ arrival * beta.den → preempted_at beta arrival values < length values)
+          → (t : Bool) → leb (v * beta.num) (arrival * beta.den) ≡ t → preempted_at beta arrival (v ∷ values) < suc (length values)
+      go later true e = rw e (omega arith)
+      go later false e =
+          let here : arrival * beta.den < v * beta.num = leb-false _ _ e in
+          let rest : lowest_with low values * beta.num ≤ arrival * beta.den =
+          min_cases _ v (lowest_with low values) beta.num (λ m. absurd (omega arith)) (λ m. omega arith) in
+          let less = later rest in
+          rw e (omega arith)
+
+  pub lowest_goes : (values : List ℕ) (low : ℕ) → lowest_of values ≡ Some low → low * beta.num ≤ arrival * beta.den
+      → preempted_at beta arrival values < length values
+  unfolding lowest_of preempted_at
+  lowest_goes [] low is h = absurd (cc)
+  lowest_goes (v ∷ values) low is h = go (leb (v * beta.num) (arrival * beta.den)) refl
+    where
+      go : (t : Bool) → leb (v * beta.num) (arrival * beta.den) ≡ t → preempted_at beta arrival (v ∷ values) < suc (length values)
+      go true e = rw e (omega arith)
+      go false e =
+          let same : lowest_with v values ≡ low = cc in
+          let goes : lowest_with v values * beta.num ≤ arrival * beta.den = rw same h in
+          let later = goes_with v values (leb-false _ _ e) goes in
+          rw e (omega arith)
 
   pub nothing_held : (values : List ℕ) → lowest_of values ≡ None → None ≡ position (preempts beta arrival) values
   unfolding lowest_of

@@ -135,5 +135,8 @@ module _ (values : List ℕ) (low : ℕ) (is : lowest_of values ≡ Some low) wh
           (λ k f e. absurd (cc))
           (λ k f e. lowest_there v values (omega (arith, lowest_at_most v values)) (rw (← same) at k))
 
-  pub held_loses : (arrival place : ℕ) → low < arrival → newest_of low values ≡ Some place → loser_at (values ++ arrival ∷ []) ≡ place
-  held_loses arrival place h found = newest_loses low arrival values place (held_lower low (omega arith)) h found
+  -- of values that are lower than the arrival, the newest of the lowest is held, and it is the loser
+  pub held_loses : (arrival : ℕ) → low < arrival
+      → IsSome (newest_of low values) × ((place : ℕ) → newest_of low values ≡ Some place → (place < length values) × (loser_at (values ++ arrival ∷ []) ≡ place))
+  held_loses arrival h =
+      (held_there, λ place found. (newest_inside low values place found, newest_loses low arrival values place (held_lower low (omega arith)) h found))

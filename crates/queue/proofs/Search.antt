@@ -1,6 +1,12 @@
 -- What the searches over the held values find, as their definitions have it.
 use Rattle.std.proofs.Common.{◌≡◌, ℕ, zero, suc, ◌<◌, ◌≤◌, min, false, true, eqb, Option, None, Some, MatchOption, List, [], ◌∷◌, length, get_or, refl, sym, ap, ◌∙◌, arith}
 use Rattle.std.specs.List.{fold}
+use Prim.Native.Nat.{◌*◌}
+use lib.ListN.{drop}
+use lib.Seq.{drop-cons}
+use borrow.Author.Tests.{le-leb}
+use Rattle.model.specs.declared.Beta.{Beta}
+use Rattle.model.specs.Policies.PG.{preempted_at}
 use Rattle.queue.specs.Choose.{lowest_with, lowest_of, newest_of}
 
 lowest_with_both : (a b : ℕ) (values : List ℕ) → lowest_with (min a b) values ≡ min b (lowest_with a values)
@@ -53,3 +59,9 @@ newest_some value (v ∷ values) (suc place) h =
 pub newest_found : (value : ℕ) (values : List ℕ) (r : Option ℕ) → MatchOption r (NoneFrom value values 0) (IsNewest value values) → r ≡ newest_of value values
 newest_found value values None h = sym (newest_none value values h)
 newest_found value values (Some place) h = sym (newest_some value values place h)
+
+-- of the values from a place on, the beta step finds the first where the one at that place is preempted
+pub preempted_here : (values : List ℕ) (i : ℕ) → i < length values → (beta : Beta) (arrival : ℕ) → get_or values i 0 * beta.num ≤ arrival * beta.den
+    → preempted_at beta arrival (drop i values) ≡ 0
+unfolding preempted_at
+preempted_here values i inside beta arrival h = rw (drop-cons values i 0 inside, le-leb _ _ h) refl

@@ -1,8 +1,7 @@
 -- One packet of a trace: the sendings before its slot, then its arrival, as one turn of a course.
-use Prim.Native.Nat.{ℕ, zero, suc, ◌-◌, ◌≤◌, ◌<◌}
+use Prim.Native.Nat.{ℕ, zero, suc, ◌≤◌}
 use mathlib.Core.Path.{◌≡◌, refl, sym, ap, subst, ◌∙◌}
 use mathlib.Core.List.{List, [], ◌∷◌, ◌++◌}
-use native.Mathlib.Omega.{arith}
 use lib.ListN.{length}
 use Rattle.model.specs.declared.Packet.{Packet}
 use Rattle.model.specs.declared.Slot.{Slot}
@@ -12,9 +11,8 @@ use Rattle.model.specs.Course.{Step, Decided, and_then, by_rule, send_oldest, sl
 use Rattle.laws.specs.MostQueue.{turn}
 use Rattle.laws.proofs.Agree.{ends_short}
 use Rattle.steps.specs.declared.Window.{Window}
-use Rattle.steps.specs.Window.{window_of, Within}
+use Rattle.steps.specs.Window.{window_of}
 use Rattle.steps.specs.Step.{Stepped, any_rule, sending, arriving, turning}
-use Rattle.steps.proofs.Windows.{window_length}
 
 pub entered_both : (first second : List Entry) (lists : Lists) → entered (first ++ second) lists ≡ entered second (entered first lists)
 unfolding entered
@@ -54,3 +52,7 @@ pub sending_is : (rule : List Packet → Packet → Decided) (now until : Slot) 
     → sending now until queue ≡ slot_ends (by_rule rule) (slots_until now until) now queue
 unfolding sending
 sending_is rule now until queue = ends_any rule (slots_until now until) now queue
+
+pub turning_is : (rule : List Packet → Packet → Decided) (now : Slot) (a : Arrival) (queue : List Packet) → turning rule now a queue ≡ turn (by_rule rule) now queue a
+turning_is rule now a queue =
+    ap (λ (s : Step (List Packet)). and_then s.entries (arriving rule a s.next)) (sending_is rule now a.slot queue)
